@@ -1,0 +1,4 @@
+pub mod Differences
+pub mod OneToOne
+pub mod Order
+pub mod Settled

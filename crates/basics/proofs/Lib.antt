@@ -1,0 +1,5 @@
+pub mod Lists
+pub mod Joined
+pub mod Bits
+pub mod Tests
+pub mod Settled

@@ -1,0 +1,4 @@
+pub mod Words
+pub mod Made
+pub mod Cells
+pub mod Settled

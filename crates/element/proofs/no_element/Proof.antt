@@ -1,0 +1,11 @@
+use Rattle.element.specs.Record.{nothing}
+use mathlib.Core.Path.{refl}
+use Rattle.element.proofs.no_element.Statement.{statement}
+use Rattle.element.proofs.no_element.Tie as tie
+
+returns : tie.Need-returns
+unfolding nothing
+returns c = refl
+
+pub no-element-spec : {M : Type 1} → statement M
+no-element-spec = tie.close (tie.spec returns)

@@ -1,0 +1,6 @@
+pub mod Sizes
+pub mod Rows
+pub mod Copies
+pub mod Points
+pub mod Padding
+pub mod Settled

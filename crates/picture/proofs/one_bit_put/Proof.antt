@@ -1,0 +1,19 @@
+use Rattle.picture.specs.Points.{putIn}
+use borrow.Author.Tests.{eq-eqb, ne-eqb}
+use borrow.Author.Needs.{needs}
+use Rattle.picture.proofs.one_bit_put.Statement.{statement}
+use Rattle.picture.proofs.one_bit_put.Tie as tie
+
+mask-of-requires : tie.Need-mask-of-requires
+mask-of-requires c κs = search needs
+
+returns : tie.Need-returns
+unfolding putIn
+returns c = simp (eq-eqb _ _ (c .if1 .taken), c .before .mask-of .ensures)
+
+returns-2 : tie.Need-returns-2
+unfolding putIn
+returns-2 c = simp (ne-eqb _ _ (c .if1 .left), c .before .mask-of .ensures)
+
+pub one-bit-put-spec : {M : Type 1} → statement M
+one-bit-put-spec = tie.close (tie.spec mask-of-requires returns returns-2)

@@ -1,0 +1,4 @@
+pub mod Frame
+pub mod Points
+pub mod Bytes
+pub mod Copy
