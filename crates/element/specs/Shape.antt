@@ -1,5 +1,5 @@
 -- An element as the definitions have it: its size, its origin, which cells are set, and their heights.
-use Prim.Native.Nat.{ℕ}
+use Prim.Native.Nat.{ℕ, _^_}
 use mathlib.Core.Bool.{Bool, cond}
 use lib.Dec.{ltb}
 use lib.IntN.{ℤ, pos, subℕ}
@@ -24,4 +24,4 @@ offsetOf B column row = record { dx = subℕ column (B .origin-column); dy = sub
 
 -- the height that a byte stands for: 0 to 127 are themselves, 129 to 255 stand for -127 to -1
 abbrev pub heightOf : ℕ → ℤ
-heightOf g = cond (ltb g 128) (pos g) (subℕ g 256)
+heightOf g = cond (ltb g 128) (pos g) (subℕ g (2 ^ 8))

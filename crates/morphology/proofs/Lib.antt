@@ -1,0 +1,17 @@
+pub mod Truth
+pub mod Folds
+pub mod Reach
+pub mod Order
+pub mod Duality
+pub mod Integers
+pub mod Sets
+pub mod Weights
+pub mod Sums
+pub mod Places
+pub mod Runs
+pub mod Tests
+pub mod Scan
+pub mod Bridge
+pub mod Check
+pub mod Worked
+pub mod Mistakes

@@ -1,0 +1,12 @@
+pub mod Step
+pub mod Operations
+pub mod Weighted
+pub mod Turned
+pub mod Order
+pub mod Sets
+pub mod Sums
+pub mod Chain
+pub mod Check
+pub mod Demand
+pub mod Worked
+pub mod Mistakes

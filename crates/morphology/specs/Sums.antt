@@ -1,0 +1,46 @@
+-- The weighted rule in document 01's own order: the least, or the greatest, of the integer sums, which is then held to 0..255.
+-- proofs/Sums.antt: it gives what Weighted.antt gives, where each sum is held by itself.
+use Prim.Native.Nat.{ℕ, min}
+use mathlib.Core.Bool.{cond}
+use mathlib.Core.Option.{Option, none, some}
+use lib.IntN.{ℤ, pos, negsuc, _+ℤ_, _-ℤ_}
+use lib.Signed.{leZ}
+use Rattle.picture.specs.Frame.{Frame}
+use Rattle.picture.specs.Bytes.{Picture}
+use Rattle.element.specs.Shape.{Shape, heightOf}
+use Rattle.morphology.specs.Operations.{gather, moved, onward, backward}
+
+-- a sum held to 0..255
+unfoldable pub held : ℤ → ℕ
+held (pos n) = min n 255
+held (negsuc n) = 0
+
+-- z where there is no sum
+unfoldable pub heldOr : ℕ → Option ℤ → ℕ
+heldOr z none = z
+heldOr z (some s) = held s
+
+-- the lesser, and the greater, of two sums
+unfoldable pub lesser : ℤ → ℤ → ℤ
+lesser s t = cond (leZ s t) s t
+
+unfoldable pub greater : ℤ → ℤ → ℤ
+greater s t = cond (leZ s t) t s
+
+-- of sums that there may be
+unfoldable pub among : (ℤ → ℤ → ℤ) → Option ℤ → Option ℤ → Option ℤ
+among choose none t = t
+among choose (some s) none = some s
+among choose (some s) (some t) = some (choose s t)
+
+-- the least of A(p + b) - g(b), over those b with p + b in the frame, then held; 255 if there is none
+unfoldable pub erodeSums : Frame → Shape → Picture → Picture
+erodeSums F B A x y =
+    heldOr 255 (gather (among lesser) none B (onward F B x y)
+    (λ c r. some (pos (A (moved x c (B .origin-column)) (moved y r (B .origin-row))) -ℤ heightOf (B .height c r))))
+
+-- the greatest of A(p - b) + g(b), over those b with p - b in the frame, then held; 0 if there is none
+unfoldable pub dilateSums : Frame → Shape → Picture → Picture
+dilateSums F B A x y =
+    heldOr 0 (gather (among greater) none B (backward F B x y)
+    (λ c r. some (pos (A (moved x (B .origin-column) c) (moved y (B .origin-row) r)) +ℤ heightOf (B .height c r))))
