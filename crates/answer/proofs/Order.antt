@@ -5,8 +5,9 @@ use mathlib.Core.Bool.{true, false}
 use mathlib.Core.List.{List, [], _∷_}
 use mathlib.Core.Logic.{_⊎_, inl, inr, ⊎-elim, _↔_}
 use native.Mathlib.Omega.{arith}
+use borrow.Author.Tests.{eqb-true}
 use Rattle.answer.specs.declared.Told.{Told}
-use Rattle.answer.specs.Answer.{plain}
+use Rattle.answer.specs.Answer.{plain, isDone}
 use Rattle.answer.specs.Refuse.{Test, refuse, FirstHolds, here, later, NoneHolds, end, next}
 
 -- no test holds, and the answer is what follows; or some test is the first to hold, and the answer is its number
@@ -51,3 +52,14 @@ given-none ((false, m) ∷ ts) some e = next (given-none ts (some .1) e)
 
 pub done-exactly : (ts : List Test) → Numbered ts → (refuse ts (plain 0) ≡ plain 0) ↔ NoneHolds ts
 done-exactly ts some = (given-none ts some, none-given (plain 0))
+
+-- the same as a fact on each test
+abbrev pub NoneOf : List Test → Type 0
+NoneOf [] = Unit {0}
+NoneOf (t ∷ ts) = (t .0 ≡ false) × NoneOf ts
+
+pub none-of : (ts : List Test) → Numbered ts → isDone (refuse ts (plain 0)) ≡ true → NoneOf ts
+unfolding plain
+none-of [] some e = tt
+none-of ((true, n) ∷ ts) some e = let z = eqb-true n 0 e in absurd (omega (arith, some .0))
+none-of ((false, n) ∷ ts) some e = (refl, none-of ts (some .1) e)

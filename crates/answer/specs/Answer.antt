@@ -1,5 +1,7 @@
 -- Document 01, "Refusal numbers": the number, dx and dy of each answer.
 use Prim.Native.Nat.{ℕ}
+use mathlib.Core.Bool.{Bool}
+use lib.Dec.{eqb}
 use lib.IntN.{pos, subℕ}
 use Rattle.answer.specs.declared.Answer.{Answer}
 use Rattle.answer.specs.declared.Answer.the-variants.{Done, Size, Source, Pad, Shape, Overlap, Chain, Split, Room, Form, Job}
@@ -25,3 +27,7 @@ told (Split x y) = record { number = 7; dx = subℕ x centre; dy = subℕ y cent
 told Room = plain 8
 told Form = plain 9
 told Job = plain 10
+
+-- 0 means done
+abbrev pub isDone : Told → Bool
+isDone t = eqb (t .number) 0

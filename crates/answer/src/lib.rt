@@ -1,7 +1,7 @@
 // What a call answers: done, or the first refusal that holds. One kind for the whole library.
 ghost use mathlib.Core.Path.{_≡_};
 ghost use lib.IntN.{subℕ};
-ghost use Rattle.answer.specs.Answer.{told, plain, centre};
+ghost use Rattle.answer.specs.Answer.{told, plain, isDone, centre};
 
 pub enum Answer {
     Done,
@@ -62,4 +62,12 @@ pub fn tell(a: Answer) -> Told
         Answer::Form => numbered(9),
         Answer::Job => numbered(10),
     }
+}
+
+// The call was carried out.
+pub fn is_done(a: Answer) -> bool
+    ensures { λ r. ⌜ r ≡ isDone (told a) ⌝ }
+{
+    let t = tell(a);
+    t.number == 0
 }

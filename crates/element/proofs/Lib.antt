@@ -1,4 +1,5 @@
 pub mod Words
 pub mod Made
 pub mod Cells
+pub mod Heights
 pub mod Settled

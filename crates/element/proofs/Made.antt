@@ -1,6 +1,6 @@
 -- What the tests of a descriptor tell, test by test.
 use Prim.Native.Nat.{ℕ, _+_, _-_, _*_, _/_, _≤_, _<_}
-use mathlib.Core.Path.{_≡_, ap, ap₂, _∙_, subst}
+use mathlib.Core.Path.{_≡_, sym, ap, ap₂, _∙_, subst}
 use mathlib.Core.Bool.{Bool, true, false, cond, not, _&&_}
 use mathlib.Core.List.{List, [], _∷_}
 use native.Mathlib.Omega.{arith}
@@ -11,12 +11,13 @@ use lib.ListN.{length, length-drop}
 use Rattle.basics.proofs.Tests.{both}
 use Rattle.picture.specs.declared.Depth.{Depth}
 use Rattle.picture.specs.declared.Depth.the-variants.{OneBit, EightBit}
+use Rattle.picture.specs.declared.Point.{Point}
 use Rattle.picture.specs.Frame.{pictureBytes, Holds}
 use Rattle.picture.specs.Bytes.{paddingClear}
 use Rattle.answer.specs.Answer.{told, plain}
 use Rattle.answer.specs.Refuse.{refuse}
 use Rattle.element.specs.declared.Read.{Read}
-use Rattle.element.specs.Record.{elementOf, nothing}
+use Rattle.element.specs.Record.{originOf, elementOf, nothing}
 use Rattle.element.specs.Descriptor.{mostCells, wideOf, highOf, originColumnOf, originRowOf, cellsOf, heightsOf, cellsEnd, headMade, cellsMade, wellMade, heightsMade, wellWeighted}
 
 -- whatever the two bytes are, the rows end within few bytes
@@ -33,6 +34,11 @@ holds-as depth n m w v h g a b c p = subst (λ k. Holds depth k v g) a (subst (�
 
 pub padding-as : (l m : List ℕ) (w v h g : ℕ) → l ≡ m → w ≡ v → h ≡ g → paddingClear OneBit l w h ≡ paddingClear OneBit m v g
 padding-as l m w v h g a b c = ap (λ k. paddingClear OneBit k w h) a ∙ ap₂ (paddingClear OneBit m) b c
+
+-- what the test of the head says, of the origin that was read
+pub head-of : (d : List ℕ) (o : Point) (b v : Bool) → o ≡ originOf d → b ≡ headMade (wideOf d) (highOf d) (o .ping .0) (o .bin .0) → b ≡ v
+    → headMade (wideOf d) (highOf d) (originColumnOf d) (originRowOf d) ≡ v
+head-of d o b v e f g = sym (ap (λ (p : Point). headMade (wideOf d) (highOf d) (p .ping .0) (p .bin .0)) e) ∙ sym f ∙ g
 
 -- well made cells: the four bytes, and the rows after them
 pub record Cells (d : List ℕ) : Type 0 where

@@ -7,6 +7,7 @@ use lib.ListN.{getD, replicate}
 use Rattle.basics.specs.Lists.{firsts}
 use Rattle.basics.specs.Bits.{on, digits}
 use Rattle.picture.specs.declared.Depth.the-variants.{OneBit}
+use Rattle.picture.specs.declared.Point.{Point}
 use Rattle.picture.specs.Frame.{rowBytes}
 use Rattle.element.specs.declared.Element.{Element}
 use Rattle.element.specs.Shape.{Shape}
@@ -30,10 +31,14 @@ rowWord d n r = wordOf d (4 + r * n) n
 unfoldable pub rowWords : List ℕ → ℕ → ℕ → List ℕ
 rowWords d n h = firsts (rowWord d n) h ++ replicate (mostCells - h) 0
 
+-- the origin of a descriptor
+abbrev pub originOf : List ℕ → Point
+originOf d = record { ping = record { 0 = originColumnOf d }; bin = record { 0 = originRowOf d } }
+
 -- the record of a descriptor, and that of none
 unfoldable pub elementOf : List ℕ → Element
 elementOf d =
-    record { w = wideOf d; h = highOf d; origin = record { ping = record { 0 = originColumnOf d }; bin = record { 0 = originRowOf d } }; rows = rowWords d (rowBytes OneBit (wideOf d)) (highOf d) }
+    record { w = wideOf d; h = highOf d; origin = originOf d; rows = rowWords d (rowBytes OneBit (wideOf d)) (highOf d) }
 
 unfoldable pub nothing : Element
 nothing = record { w = 0; h = 0; origin = record { ping = record { 0 = 0 }; bin = record { 0 = 0 } }; rows = replicate mostCells 0 }

@@ -14,7 +14,7 @@ ghost use Rattle.answer.specs.Refuse.{refuse};
 ghost use lib.Dec.{eqb};
 ghost use Rattle.picture.specs.Frame.{Holds};
 ghost use Rattle.element.specs.Descriptor.{mostCells, cellsEnd, cellsMade, wellMade, headMade, heightMade, Weighed, heightsMadeIn, heightsMade, wellWeighted, descriptorLength};
-ghost use Rattle.element.specs.Record.{cellOn, wordByte, wordOf, rowWords, elementOf, nothing};
+ghost use Rattle.element.specs.Record.{cellOn, wordByte, wordOf, rowWords, originOf, elementOf, nothing};
 
 // The limit: cells across, and cells down. A row word has a bit for each.
 pub const MOST_CELLS: usize = 32;
@@ -98,10 +98,23 @@ fn words_of(d: &[u8], n: usize, h: usize) -> [u32; MOST_CELLS]
     rows
 }
 
-// Size and origin, on numbers alone.
-fn head_made(w: u8, h: u8, column: u8, row: u8) -> bool
-    ensures { λ r. ⌜ r ≡ headMade w h column row ⌝ }
+// The origin, from the third and the fourth byte.
+fn origin_of(d: &[u8]) -> Point
+    requires { ⌜ 4 ≤ length (now d) ⌝ }
+    ensures { λ r. ⌜ r ≡ originOf (now (d .entry)) ⌝ }
 {
+    Point {
+        ping: Ping(d[2] as u16),
+        bin: Bin(d[3] as u16),
+    }
+}
+
+// Size and origin.
+fn head_made(w: u8, h: u8, origin: Point) -> bool
+    ensures { λ r. ⌜ r ≡ headMade w h (origin .ping .0) (origin .bin .0) ⌝ }
+{
+    let column = origin.ping;
+    let row = origin.bin;
     if w < 1 {
         return false;
     }
@@ -114,10 +127,10 @@ fn head_made(w: u8, h: u8, column: u8, row: u8) -> bool
     if (MOST_CELLS as u8) < h {
         return false;
     }
-    if w <= column {
+    if (w as u16) <= column.0 {
         return false;
     }
-    row < h
+    row.0 < (h as u16)
 }
 
 // The four bytes and the rows are there and well made.
@@ -127,7 +140,7 @@ fn cells_made(d: &[u8]) -> bool
     if d.len() < 4 {
         return false;
     }
-    if head_made(d[0], d[1], d[2], d[3]) {
+    if head_made(d[0], d[1], origin_of(d)) {
         let w = size(d[0]);
         let h = size(d[1]);
         if d.len() < cells_end(w, h) {
@@ -225,15 +238,8 @@ fn element_at(d: &[u8]) -> Element
     let w = size(d[0]);
     let h = size(d[1]);
     let rows = words_of(d, picture::row_bytes(Depth::OneBit, w), h);
-    Element {
-        w,
-        h,
-        origin: Point {
-            ping: Ping(d[2] as u16),
-            bin: Bin(d[3] as u16),
-        },
-        rows,
-    }
+    let origin = origin_of(d);
+    Element { w, h, origin, rows }
 }
 
 fn no_element() -> Element

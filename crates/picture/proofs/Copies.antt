@@ -62,7 +62,7 @@ face-lt : (face : Face) (b : ℕ) → b < 256 → cond (overOf face) (255 - b) b
 face-lt AsIs b h = h
 face-lt TurnedOver b h = omega arith
 
-face-small : (face : Face) (n v : ℕ) → v ≤ n → turned face n v ≤ n
+pub face-small : (face : Face) (n v : ℕ) → v ≤ n → turned face n v ≤ n
 face-small AsIs n v h = h
 face-small TurnedOver n v h = omega arith
 

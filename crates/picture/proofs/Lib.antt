@@ -3,4 +3,5 @@ pub mod Rows
 pub mod Copies
 pub mod Points
 pub mod Padding
+pub mod Back
 pub mod Settled

@@ -108,6 +108,10 @@ unfolding valueAt
 written-padding A w h t small x y hx hr hy = ap (λ b. valueIn OneBit b x) (byte-is OneBit A w h t small x y hr hy) ∙ row-padding (λ x. A x y) w (λ x l. small x y l hy) x hx hr
 
 -- pictures that agree in the frame are the same bytes
+pub bytes-same : (depth : Depth) (A B : Picture) (w h : ℕ) → ((x y : ℕ) → x < w → y < h → A x y ≡ B x y) → bytesOf depth A w h ≡ bytesOf depth B w h
+unfolding bytesOf
+bytes-same depth A B w h each = joined-same _ _ h (λ y l. row-same depth _ _ w (λ x k. each x y k l))
+
 pub written-same : (depth : Depth) (A B : Picture) (w h : ℕ) (t : List ℕ) → ((x y : ℕ) → x < w → y < h → A x y ≡ B x y) → written depth A w h t ≡ written depth B w h t
-unfolding written bytesOf
-written-same depth A B w h t each = ap (λ l. l ++ drop (pictureBytes depth w h) t) (joined-same _ _ h (λ y l. row-same depth _ _ w (λ x k. each x y k l)))
+unfolding written
+written-same depth A B w h t each = ap (λ l. l ++ drop (pictureBytes depth w h) t) (bytes-same depth A B w h each)

@@ -1,4 +1,4 @@
-use Rattle.element.proofs.Made.{cells-short, head-fails, rows-fail, padding-decides, rows-hold, holds-as, padding-as}
+use Rattle.element.proofs.Made.{cells-short, head-fails, rows-fail, padding-decides, rows-hold, holds-as, padding-as, head-of}
 use Rattle.element.specs.Descriptor.{cellsEnd}
 use Rattle.picture.specs.declared.Depth.the-variants.{OneBit}
 use Rattle.basics.proofs.Lists.{tail-is}
@@ -18,11 +18,8 @@ shared-slice-read-head-made c = search needs
 shared-slice-read-head-made-2 : tie.Need-shared-slice-read-head-made-2
 shared-slice-read-head-made-2 c = search needs
 
-shared-slice-read-head-made-3 : tie.Need-shared-slice-read-head-made-3
-shared-slice-read-head-made-3 c = search needs
-
-shared-slice-read-head-made-4 : tie.Need-shared-slice-read-head-made-4
-shared-slice-read-head-made-4 c = search needs
+origin-of-requires : tie.Need-origin-of-requires
+origin-of-requires c κs = search needs
 
 head-made-requires : tie.Need-head-made-requires
 head-made-requires c κs = search needs
@@ -40,12 +37,12 @@ size-requires-2 : tie.Need-size-requires-2
 size-requires-2 c κs = search needs
 
 cells-end-requires : tie.Need-cells-end-requires
-cells-end-requires c κs = (c .before .before .size .ensures .1, c .size2 .ensures .1)
+cells-end-requires c κs = search needs
 
 returns-2 : tie.Need-returns-2
-returns-2 c = let d = c .before .before .before .before .before .before .before .before .before .before .before .before .before .before .args .d .now in
+returns-2 c = let d = c .before .before .before .before .before .before .before .before .before .before .before .before .before .args .d .now in
     let e = c .before .cells-end .ensures ∙ ap₂ cellsEnd (c .before .before .before .before .size .ensures .0) (c .before .before .size2 .ensures .0) in
-    rows-fail d (c .before .before .before .before .before .before .before .before .before .before .before .before .if1 .left) (sym (c .before .before .before .before .before .before .before .head-made .ensures) ∙ c .before .before .before .before .before .before .if2 .taken) (subst (λ n. length d < n) e (c .if3 .taken))
+    rows-fail d (c .before .before .before .before .before .before .before .before .before .before .before .if1 .left) (head-of d _ _ _ (c .before .before .before .before .before .before .before .before .origin-of .ensures) (c .before .before .before .before .before .before .before .head-made .ensures) (c .before .before .before .before .before .before .if2 .taken)) (subst (λ n. length d < n) e (c .if3 .taken))
 
 sub-padding-clear : tie.Need-sub-padding-clear
 sub-padding-clear c = search needs
@@ -57,19 +54,19 @@ part-padding-clear-end : tie.Need-part-padding-clear-end
 part-padding-clear-end c = search needs
 
 padding-clear-requires : tie.Need-padding-clear-requires
-padding-clear-requires c κs = let d = c .before .before .before .before .before .before .before .before .before .before .before .before .before .before .before .args .d .now in
+padding-clear-requires c κs = let d = c .before .before .before .before .before .before .before .before .before .before .before .before .before .before .args .d .now in
     let e = c .before .before .cells-end .ensures ∙ ap₂ cellsEnd (c .before .before .before .before .before .size .ensures .0) (c .before .before .before .size2 .ensures .0) in
-    let p = rows-hold d (c .before .before .before .before .before .before .before .before .before .before .before .before .before .if1 .left) (sym (c .before .before .before .before .before .before .before .before .head-made .ensures) ∙ c .before .before .before .before .before .before .before .if2 .taken) (subst (λ n. n ≤ length d) e (c .before .if3 .left)) in
+    let p = rows-hold d (c .before .before .before .before .before .before .before .before .before .before .before .before .if1 .left) (head-of d _ _ _ (c .before .before .before .before .before .before .before .before .before .origin-of .ensures) (c .before .before .before .before .before .before .before .before .head-made .ensures) (c .before .before .before .before .before .before .before .if2 .taken)) (subst (λ n. n ≤ length d) e (c .before .if3 .left)) in
     holds-as OneBit _ _ _ _ _ _ (sym (ap length (tail-is d 4))) (sym (c .before .before .before .before .before .size .ensures .0)) (sym (c .before .before .before .size2 .ensures .0)) p
 
 returns-3 : tie.Need-returns-3
-returns-3 c = let d = c .before .before .before .before .before .before .before .before .before .before .before .before .before .before .before .before .args .d .now in
+returns-3 c = let d = c .before .before .before .before .before .before .before .before .before .before .before .before .before .before .before .args .d .now in
     let e = c .before .before .before .cells-end .ensures ∙ ap₂ cellsEnd (c .before .before .before .before .before .before .size .ensures .0) (c .before .before .before .before .size2 .ensures .0) in
     c .padding-clear .ensures ∙ padding-as _ _ _ _ _ _ (tail-is d 4) (c .before .before .before .before .before .before .size .ensures .0) (c .before .before .before .before .size2 .ensures .0)
-    ∙ padding-decides d (c .before .before .before .before .before .before .before .before .before .before .before .before .before .before .if1 .left) (sym (c .before .before .before .before .before .before .before .before .before .head-made .ensures) ∙ c .before .before .before .before .before .before .before .before .if2 .taken) (subst (λ n. n ≤ length d) e (c .before .before .if3 .left))
+    ∙ padding-decides d (c .before .before .before .before .before .before .before .before .before .before .before .before .before .if1 .left) (head-of d _ _ _ (c .before .before .before .before .before .before .before .before .before .before .origin-of .ensures) (c .before .before .before .before .before .before .before .before .before .head-made .ensures) (c .before .before .before .before .before .before .before .before .if2 .taken)) (subst (λ n. n ≤ length d) e (c .before .before .if3 .left))
 
 returns-4 : tie.Need-returns-4
-returns-4 c = head-fails (c .before .before .before .before .before .before .before .before .args .d .now) (c .before .before .before .before .before .before .if1 .left) (sym (c .before .head-made .ensures) ∙ c .if2 .left)
+returns-4 c = let d = c .before .before .before .before .before .before .before .args .d .now in head-fails d (c .before .before .before .before .before .if1 .left) (head-of d _ _ _ (c .before .before .origin-of .ensures) (c .before .head-made .ensures) (c .if2 .left))
 
 pub cells-made-spec : {M : Type 1} → statement M
 cells-made-spec =
@@ -78,8 +75,7 @@ cells-made-spec =
     returns
     shared-slice-read-head-made
     shared-slice-read-head-made-2
-    shared-slice-read-head-made-3
-    shared-slice-read-head-made-4
+    origin-of-requires
     head-made-requires
     shared-slice-read-size
     size-requires

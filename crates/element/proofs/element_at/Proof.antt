@@ -1,8 +1,8 @@
+use Rattle.element.proofs.Made.{cells-tell}
+use Rattle.element.specs.Record.{elementOf}
 use Rattle.picture.specs.Frame.{rowBytes}
 use Rattle.picture.specs.declared.Depth.the-variants.{OneBit}
 use Prim.Native.Nat.{_+_, _*_}
-use Rattle.element.proofs.Made.{cells-tell}
-use Rattle.element.specs.Record.{elementOf}
 use mathlib.Core.Path.{ap, ap₂, _∙_}
 use native.Mathlib.Omega.{arith}
 use borrow.Author.Needs.{needs}
@@ -22,27 +22,18 @@ size-requires-2 : tie.Need-size-requires-2
 size-requires-2 c κs = search needs
 
 row-bytes-requires : tie.Need-row-bytes-requires
-row-bytes-requires c κs = omega (arith, c .before .before .size .ensures .1)
+row-bytes-requires c κs = search needs
 
 words-of-requires : tie.Need-words-of-requires
 words-of-requires c κs = let t = cells-tell (c .before .before .before .before .before .before .args .d .now) (c .before .before .before .before .before .before .pre) in
     (omega (arith, c .before .size2 .ensures .0), omega (arith, ap₂ (λ m n. 4 + m * n) (c .before .size2 .ensures .0) (c .row-bytes .ensures ∙ ap (rowBytes OneBit) (c .before .before .before .size .ensures .0)), t .rows))
 
-shared-slice-read-t6 : tie.Need-shared-slice-read-t6
-shared-slice-read-t6 c = let t = cells-tell (c .before .before .before .before .before .before .before .before .args .d .now) (c .before .before .before .before .before .before .before .before .pre) in omega arith
-
-cast-t11 : tie.Need-cast-t11
-cast-t11 c = omega (arith, c .shared-slice-known4 .given 2)
-
-shared-slice-read-t14 : tie.Need-shared-slice-read-t14
-shared-slice-read-t14 c = let t = cells-tell (c .before .before .before .before .before .before .before .before .before .args .d .now) (c .before .before .before .before .before .before .before .before .before .pre) in omega arith
-
-cast-t15 : tie.Need-cast-t15
-cast-t15 c = omega (arith, c .shared-slice-known5 .given 3)
+origin-of-requires : tie.Need-origin-of-requires
+origin-of-requires c κs = let t = cells-tell (c .before .before .before .before .before .before .before .args .d .now) (c .before .before .before .before .before .before .before .pre) in t .long
 
 returns : tie.Need-returns
 unfolding elementOf
-returns c = simp (c .before .before .words-of .ensures, c .before .before .before .row-bytes .ensures, c .before .before .before .before .size2 .ensures .0, c .before .before .before .before .before .before .size .ensures .0)
+returns c = simp (c .origin-of .ensures, c .before .words-of .ensures, c .before .before .row-bytes .ensures, c .before .before .before .size2 .ensures .0, c .before .before .before .before .before .size .ensures .0)
 
 pub element-at-spec : {M : Type 1} → statement M
 element-at-spec =
@@ -54,8 +45,5 @@ element-at-spec =
     size-requires-2
     row-bytes-requires
     words-of-requires
-    shared-slice-read-t6
-    cast-t11
-    shared-slice-read-t14
-    cast-t15
+    origin-of-requires
     returns)

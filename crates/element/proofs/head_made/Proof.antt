@@ -28,11 +28,11 @@ returns-4 c = simp (le-leb _ _ (c .before .before .before .if1 .left), le-leb _ 
 
 returns-5 : tie.Need-returns-5
 unfolding headMade
-returns-5 c = simp (le-leb _ _ (c .before .before .before .before .if1 .left), le-leb _ _ (c .before .before .before .if2 .left), le-leb _ _ (c .before .before .if3 .left), le-leb _ _ (c .before .if4 .left), le-ltb _ _ (c .if5 .taken))
+returns-5 c = simp (le-leb _ _ (c .before .before .before .before .before .if1 .left), le-leb _ _ (c .before .before .before .before .if2 .left), le-leb _ _ (c .before .before .before .if3 .left), le-leb _ _ (c .before .before .if4 .left), le-ltb _ _ (c .if5 .taken))
 
 returns-6 : tie.Need-returns-6
 unfolding headMade
-returns-6 c = simp (le-leb _ _ (c .before .before .before .before .if1 .left), le-leb _ _ (c .before .before .before .if2 .left), le-leb _ _ (c .before .before .if3 .left), le-leb _ _ (c .before .if4 .left), lt-ltb _ _ (c .if5 .left))
+returns-6 c = simp (le-leb _ _ (c .before .before .before .before .before .before .if1 .left), le-leb _ _ (c .before .before .before .before .before .if2 .left), le-leb _ _ (c .before .before .before .before .if3 .left), le-leb _ _ (c .before .before .before .if4 .left), lt-ltb _ _ (c .before .if5 .left))
 
 pub head-made-spec : {M : Type 1} → statement M
 head-made-spec =

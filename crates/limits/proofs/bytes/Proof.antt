@@ -1,14 +1,8 @@
 use lib.ListN.{length}
 use Prim.Native.Nat.{_≤_, _-_}
 use borrow.Author.Needs.{needs}
-use native.Mathlib.Omega.{arith}
 use Rattle.limits.proofs.bytes.Statement.{statement}
 use Rattle.limits.proofs.bytes.Tie as tie
-use Rattle.limits.proofs.bytes.Reads as reads
-use Rattle.limits.proofs.bytes.Lts as lts
-use Rattle.limits.proofs.number.Reads as number-reads
-use Rattle.limits.proofs.size.Reads as size-reads
-use Rattle.limits.proofs.text.Reads as text-reads
 
 abbrev Inv-loop : tie.InvT-loop
 Inv-loop name t i₀ t4 t5 i = i ≤ length t

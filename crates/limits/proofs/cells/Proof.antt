@@ -1,13 +1,8 @@
 use Rattle.element.specs.Descriptor.{mostCells}
 use Prim.Native.Nat.{_≤_, _-_}
 use borrow.Author.Needs.{needs}
-use native.Mathlib.Omega.{arith}
 use Rattle.limits.proofs.cells.Statement.{statement}
 use Rattle.limits.proofs.cells.Tie as tie
-use Rattle.limits.proofs.cells.Reads as reads
-use Rattle.limits.proofs.cells.Lts as lts
-use Rattle.element.proofs.cell.Reads as cell-reads
-use Rattle.limits.proofs.text.Reads as text-reads
 
 abbrev Inv-loop : tie.InvT-loop
 Inv-loop word c₀ t3 t4 t5 c = c ≤ mostCells

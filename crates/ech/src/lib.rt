@@ -1,0 +1,205 @@
+// The ECH file, version 1, read and written.
+use answer::Answer;
+use picture::Depth;
+use picture::Face;
+ghost use mathlib.Core.Path.{_≡_};
+ghost use Prim.Native.Nat.{_+_, _*_, _/_, _%_, _≤_, _<_};
+ghost use mathlib.Core.List.{_++_};
+ghost use lib.ListN.{length, drop};
+ghost use Rattle.answer.specs.Answer.{told, plain};
+ghost use Rattle.answer.specs.Refuse.{refuse};
+ghost use mathlib.Core.Bool.{true};
+ghost use Rattle.picture.specs.Frame.{mostPings, mostBins, pictureBytes};
+ghost use Rattle.ech.specs.File.{headBytes, fileOf, twoBytes, knownKind, depthOf, faceOf, formed, headOf, kindOf, pingsOf, binsOf};
+ghost use Rattle.ech.specs.Calls.{pictureTests, GivenBack, refusedAs, bodyAnswer, bodyTarget, readAnswer, readTarget, Passed, writeAnswer, writeTarget};
+
+// The bytes before the body.
+const HEAD: usize = 10;
+
+// What a file that was read says of its picture: all 0 where it was refused.
+pub struct Header {
+    pub answer: Answer,
+    pub kind: usize,
+    pub w: usize,
+    pub h: usize,
+}
+
+fn size(x: u8) -> usize
+    ensures { λ r. ⌜ (r ≡ x) × (r ≤ 255) ⌝ }
+{
+    x as usize
+}
+
+// Two bytes, low byte first.
+fn two(low: u8, high: u8) -> usize
+    ensures { λ r. ⌜ r ≡ twoBytes low high ⌝ }
+{
+    (low as usize) + (high as usize) * 0x100
+}
+
+fn is_known(kind: usize) -> bool
+    ensures { λ r. ⌜ r ≡ knownKind kind ⌝ }
+{
+    if kind < 1 {
+        return false;
+    }
+    kind <= 3
+}
+
+fn depth_of(kind: usize) -> Depth
+    ensures { λ r. ⌜ r ≡ depthOf kind ⌝ }
+{
+    if kind == 2 {
+        return Depth::EightBit;
+    }
+    Depth::OneBit
+}
+
+fn face_of(kind: usize) -> Face
+    ensures { λ r. ⌜ r ≡ faceOf kind ⌝ }
+{
+    if kind == 3 {
+        return Face::TurnedOver;
+    }
+    Face::AsIs
+}
+
+// At least ten bytes, the three letters, version 1 and a kind that there is.
+fn is_formed(f: &[u8]) -> bool
+    ensures { λ r. ⌜ r ≡ formed (now (f .entry)) ⌝ }
+{
+    if f.len() < HEAD {
+        return false;
+    }
+    if f[0] != b'E' {
+        return false;
+    }
+    if f[1] != b'C' {
+        return false;
+    }
+    if f[2] != b'H' {
+        return false;
+    }
+    if two(f[3], f[4]) != 1 {
+        return false;
+    }
+    is_known(size(f[5]))
+}
+
+// The tests of a picture's bytes and of the room for them after `before` bytes.
+fn judged(depth: Depth, w: usize, h: usize, s: &[u8], room: usize, before: usize) -> Answer
+    requires { ⌜ before ≤ 10 ⌝ }
+    ensures { λ r. ⌜ told r ≡ refuse (pictureTests depth w h (now (s .entry)) room before) (plain 0) ⌝ }
+{
+    if picture::sized(w, h) {
+        let n = picture::picture_bytes(depth, w, h);
+        if s.len() == n {
+            if picture::padding_clear(depth, s, w, h) {
+                if room < before + n {
+                    return Answer::Room;
+                }
+                return Answer::Done;
+            }
+            return Answer::Pad;
+        }
+        return Answer::Source;
+    }
+    Answer::Size
+}
+
+fn refused(a: Answer) -> Header
+    ensures { λ r. ⌜ r ≡ refusedAs a ⌝ }
+{
+    Header {
+        answer: a,
+        kind: 0,
+        w: 0,
+        h: 0,
+    }
+}
+
+// The body of a file of a known kind into the target.
+fn read_body(kind: usize, w: usize, h: usize, body: &[u8], target: &mut [u8]) -> Header
+    ensures { λ r. ⌜ GivenBack (bodyAnswer kind w h (now (body .entry)) (now (target .entry))) kind w h r ⌝ }
+    ensures { λ _. ⌜ now (target .exit) ≡ bodyTarget kind w h (now (body .entry)) (now (target .entry)) ⌝ }
+{
+    let depth = depth_of(kind);
+    let face = face_of(kind);
+    let a = judged(depth, w, h, body, target.len(), 0);
+    if answer::is_done(a) {
+        picture::copy_picture(depth, face, body, target, w, h);
+        return Header {
+            answer: a,
+            kind,
+            w,
+            h,
+        };
+    }
+    refused(a)
+}
+
+// Reads a file's picture into the target; a refusal gives 0 for kind, W and H.
+pub fn read_ech(file: &[u8], target: &mut [u8]) -> Header
+    ensures { λ r. ⌜ GivenBack (readAnswer (now (file .entry)) (now (target .entry))) (kindOf (now (file .entry))) (pingsOf (now (file .entry))) (binsOf (now (file .entry))) r ⌝ }
+    ensures { λ _. ⌜ now (target .exit) ≡ readTarget (now (file .entry)) (now (target .entry)) ⌝ }
+{
+    if is_formed(file) {
+        let kind = size(file[5]);
+        let w = two(file[6], file[7]);
+        let h = two(file[8], file[9]);
+        return read_body(kind, w, h, &file[HEAD..], target);
+    }
+    refused(Answer::Form)
+}
+
+// The ten bytes before the body: the mark, version 1, the kind, W and H, low bytes first.
+fn head_of(kind: usize, w: usize, h: usize) -> [u8; HEAD]
+    requires { ⌜ (kind ≤ 3) × ((w ≤ mostPings) × (h ≤ mostBins)) ⌝ }
+    ensures { λ r. ⌜ r ≡ headOf kind w h ⌝ }
+{
+    let low_w = (w % 0x100) as u8;
+    let high_w = (w / 0x100) as u8;
+    let low_h = (h % 0x100) as u8;
+    let high_h = (h / 0x100) as u8;
+    [
+        b'E',
+        b'C',
+        b'H',
+        1,
+        0,
+        kind as u8,
+        low_w,
+        high_w,
+        low_h,
+        high_h,
+    ]
+}
+
+// Writes head and body; both go through the one copy of rows, the head as a row of ten bytes.
+fn put_file(kind: usize, w: usize, h: usize, source: &[u8], target: &mut [u8])
+    requires { ⌜ knownKind kind ≡ true ⌝ }
+    requires { ⌜ Passed (depthOf kind) w h (now source) (length (now target)) headBytes ⌝ }
+    ensures { λ _. ⌜ now (target .exit) ≡ fileOf kind w h (now (source .entry)) ++ drop (headBytes + pictureBytes (depthOf kind) w h) (now (target .entry)) ⌝ }
+{
+    let depth = depth_of(kind);
+    let face = face_of(kind);
+    let head = head_of(kind, w, h);
+    picture::copy_picture(Depth::EightBit, Face::AsIs, &head, target, HEAD, 1);
+    picture::copy_picture(depth, face, source, &mut target[HEAD..], w, h);
+}
+
+// Writes a picture as a file of the kind.
+pub fn write_ech(kind: usize, w: usize, h: usize, source: &[u8], target: &mut [u8]) -> Answer
+    ensures { λ r. ⌜ told r ≡ writeAnswer kind w h (now (source .entry)) (now (target .entry)) ⌝ }
+    ensures { λ _. ⌜ now (target .exit) ≡ writeTarget kind w h (now (source .entry)) (now (target .entry)) ⌝ }
+{
+    if is_known(kind) {
+        let a = judged(depth_of(kind), w, h, source, target.len(), HEAD);
+        if answer::is_done(a) {
+            put_file(kind, w, h, source, target);
+            return a;
+        }
+        return a;
+    }
+    Answer::Form
+}
