@@ -1,0 +1,23 @@
+-- Any two outcomes that a contract allows of one call are the same: for each public function, of its contract itself, as the prover reads it.
+use Rattle.basics.proofs.Settled.{Settles, SettlesBytes, settled}
+use Rattle.text.proofs.text_len.Kinds as text-len-kinds
+use Rattle.text.proofs.text_len.Reads as text-len
+use Rattle.text.proofs.put_text.Kinds as put-text-kinds
+use Rattle.text.proofs.put_text.Reads as put-text
+use Rattle.text.proofs.put_refused.Kinds as put-refused-kinds
+use Rattle.text.proofs.put_refused.Reads as put-refused
+
+pub text-len-settled : Settles 1 text-len-kinds.ps text-len-kinds.r text-len.Learnt
+text-len-settled κs a x y s t p q = settled p q
+
+pub put-text-settled : Settles 2 put-text-kinds.ps put-text-kinds.r put-text.Learnt
+put-text-settled κs a x y s t p q = settled (p .0) (q .0)
+
+pub put-text-settled-target : SettlesBytes 2 put-text-kinds.ps put-text-kinds.r put-text.Learnt (λ κs e. e .1 .0 .now)
+put-text-settled-target κs a x y s t p q = settled (p .1) (q .1)
+
+pub put-refused-settled : Settles 1 put-refused-kinds.ps put-refused-kinds.r put-refused.Learnt
+put-refused-settled κs a x y s t p q = settled (p .0) (q .0)
+
+pub put-refused-settled-target : SettlesBytes 1 put-refused-kinds.ps put-refused-kinds.r put-refused.Learnt (λ κs e. e .0 .now)
+put-refused-settled-target κs a x y s t p q = settled (p .1) (q .1)
