@@ -6,7 +6,7 @@ use Rattle.basics.specs.Lists.{joined}
 use Rattle.picture.specs.declared.Depth.{Depth}
 use Rattle.picture.specs.declared.Depth.the-variants.{OneBit, EightBit}
 use Rattle.picture.specs.Points.{valueAt}
-use Rattle.text.specs.Text.{itemOf}
+use Rattle.text.specs.Text.{lineFeed, itemOf}
 
 abbrev pub depthIf : Bool → Depth
 depthIf true = EightBit
@@ -18,4 +18,4 @@ pointItem eight s w y x = itemOf (depthIf eight) (valueAt (depthIf eight) s w x 
 
 -- row y, as a line
 unfoldable pub lineOf : Bool → List ℕ → ℕ → ℕ → List ℕ
-lineOf eight s w y = joined (pointItem eight s w y) w ++ (10 ∷ [])
+lineOf eight s w y = joined (pointItem eight s w y) w ++ (lineFeed ∷ [])

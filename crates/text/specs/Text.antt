@@ -8,6 +8,13 @@ use Rattle.picture.specs.declared.Depth.{Depth}
 use Rattle.picture.specs.declared.Depth.the-variants.{OneBit, EightBit}
 use Rattle.picture.specs.Bytes.{Picture}
 
+-- the letters that stand alone
+abbrev pub space : ℕ
+space = 0x20
+
+abbrev pub lineFeed : ℕ
+lineFeed = 10
+
 -- a number below 10,000 in decimal, with no leading zero
 abbrev pub digit : ℕ → ℕ
 digit n = 48 + n % 10
@@ -22,7 +29,7 @@ decimal n =
 -- "ECH", the size and the kind: ECH 7x1 kind 1
 unfoldable pub headLine : ℕ → ℕ → ℕ → List ℕ
 headLine w h kind =
-    (69 ∷ 67 ∷ 72 ∷ 32 ∷ []) ++ (decimal w ++ ((120 ∷ []) ++ (decimal h ++ ((32 ∷ 107 ∷ 105 ∷ 110 ∷ 100 ∷ 32 ∷ []) ++ (decimal kind ++ (10 ∷ []))))))
+    (69 ∷ 67 ∷ 72 ∷ space ∷ []) ++ (decimal w ++ ((120 ∷ []) ++ (decimal h ++ ((space ∷ 107 ∷ 105 ∷ 110 ∷ 100 ∷ space ∷ []) ++ (decimal kind ++ (lineFeed ∷ []))))))
 
 -- # for an echo and . for none
 abbrev pub mark : ℕ → ℕ
@@ -31,11 +38,11 @@ mark v = cond (eqb v 0) 46 35
 -- the point of column x, with the value v: of one bit a mark; else its decimal value, after a space where others stand before it
 unfoldable pub itemOf : Depth → ℕ → ℕ → List ℕ
 itemOf OneBit v x = mark v ∷ []
-itemOf EightBit v x = cond (eqb x 0) [] (32 ∷ []) ++ decimal v
+itemOf EightBit v x = cond (eqb x 0) [] (space ∷ []) ++ decimal v
 
 -- a line for each row; each line ends with one line feed
 unfoldable pub rowLine : Depth → (ℕ → ℕ) → ℕ → List ℕ
-rowLine depth f w = joined (λ x. itemOf depth (f x) x) w ++ (10 ∷ [])
+rowLine depth f w = joined (λ x. itemOf depth (f x) x) w ++ (lineFeed ∷ [])
 
 unfoldable pub rowLines : Depth → Picture → ℕ → ℕ → List ℕ
 rowLines depth A w h = joined (λ y. rowLine depth (λ x. A x y) w) h
@@ -45,4 +52,4 @@ textOf depth A w h kind = headLine w h kind ++ rowLines depth A w h
 
 -- "refused", a space and the number
 unfoldable pub refusedLine : ℕ → List ℕ
-refusedLine n = (114 ∷ 101 ∷ 102 ∷ 117 ∷ 115 ∷ 101 ∷ 100 ∷ 32 ∷ []) ++ (decimal n ++ (10 ∷ []))
+refusedLine n = (114 ∷ 101 ∷ 102 ∷ 117 ∷ 115 ∷ 101 ∷ 100 ∷ space ∷ []) ++ (decimal n ++ (lineFeed ∷ []))
