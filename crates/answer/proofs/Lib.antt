@@ -2,3 +2,4 @@ pub mod Differences
 pub mod OneToOne
 pub mod Order
 pub mod Settled
+pub mod Lent

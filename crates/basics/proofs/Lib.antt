@@ -3,3 +3,5 @@ pub mod Joined
 pub mod Bits
 pub mod Tests
 pub mod Settled
+pub mod Parts
+pub mod Flags

@@ -22,7 +22,7 @@ module _ (E : Shape) (Bs : List Shape) (C : Chained E Bs) where
 
   -- ---- the check
 
-  says-to : (a : Verdict) → SaysAt E Bs a → Says E Bs a
+  pub says-to : (a : Verdict) → SaysAt E Bs a → Says E Bs a
   says-to Taken none = λ o f. let p = fault-place E Bs C o f in none (p .0) (fault-from E Bs C (p .0) (subst (Fault E Bs) (sym (p .1)) f))
   says-to (Split x y) s =
       let e : Place = record { x = x; y = y } in

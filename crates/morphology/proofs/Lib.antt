@@ -15,3 +15,7 @@ pub mod Bridge
 pub mod Check
 pub mod Worked
 pub mod Mistakes
+pub mod Cells
+pub mod Overlap
+pub mod Walks
+pub mod Trim

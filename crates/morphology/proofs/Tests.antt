@@ -51,13 +51,13 @@ box B = record { pings = B .wide; bins = B .high }
 abbrev hasCell : Shape → Place → Place → Bool
 hasCell B p q = B .has (moved (q .x) (B .origin-column) (p .x)) (moved (q .y) (B .origin-row) (p .y))
 
-step-sound : (B : Shape) (p q : Place) → T (stepTest B p q) → Step B p q
+pub step-sound : (B : Shape) (p q : Place) → T (stepTest B p q) → Step B p q
 unfolding stepTest
 step-sound B p q t =
     let k = taken-parts (box B) (hasCell B p q) (q .x) (B .origin-column) (p .x) (q .y) (B .origin-row) (p .y) t in
     record { cell = record { column = _; row = _; in-width = k .is-in .ping; in-height = k .is-in .bin; set = k .is-set }; across = omega arith; down = omega arith }
 
-step-complete : (B : Shape) (p q : Place) → Step B p q → T (stepTest B p q)
+pub step-complete : (B : Shape) (p q : Place) → Step B p q → T (stepTest B p q)
 unfolding stepTest
 step-complete B p q s =
     let k = s .cell in

@@ -10,3 +10,4 @@ pub mod Check
 pub mod Demand
 pub mod Worked
 pub mod Mistakes
+pub mod Overlap

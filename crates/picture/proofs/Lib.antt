@@ -5,3 +5,4 @@ pub mod Points
 pub mod Padding
 pub mod Back
 pub mod Settled
+pub mod Shown

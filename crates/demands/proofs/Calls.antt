@@ -1,0 +1,114 @@
+-- The arguments of a call, and the buffers at exit, by name.
+use Prim.Native.Nat.{ℕ, min}
+use mathlib.Core.List.{List}
+use borrow.Fn.Kinds.{Dens, endedOf}
+use denote.Triple.Clauses.{AtExit}
+use contract.Lifetimes.{Lfts}
+use lib.ListN.{length}
+use Rattle.answer.specs.Refuse.{Test}
+use Rattle.answer.proofs.Order.{Numbered}
+use Rattle.picture.specs.declared.Depth.{Depth}
+use Rattle.picture.specs.Frame.{Frame}
+use Rattle.picture.specs.Points.{valueAt}
+use Rattle.picture.specs.Bytes.{Picture}
+use Rattle.element.specs.Shape.{Shape}
+use Rattle.element.specs.Descriptor.{wellMade, shapeIn}
+use Rattle.morphology.specs.Worked.{frame}
+use Rattle.flat.specs.Tests.{flatTests}
+use Rattle.flat.specs.Hit.{hitTests}
+use Rattle.flat.proofs.Given.{numbered}
+use Rattle.flat.proofs.erode.Kinds as one
+use Rattle.flat.proofs.open.Kinds as two
+use Rattle.flat.proofs.hit_or_miss.Kinds as pair
+
+-- a call by one element: its arguments, and the bytes of its target before and after
+pub record Call : Type 0 where
+  pub depth : Depth
+  pub w : ℕ
+  pub h : ℕ
+  pub source : List ℕ
+  pub descriptor : List ℕ
+  pub before : List ℕ
+  pub after : List ℕ
+
+abbrev pub within : Call → Frame
+within c = frame (c .w) (c .h)
+
+abbrev pub picture : Call → Picture
+picture c = valueAt (c .depth) (c .source) (c .w)
+
+abbrev pub element : Call → Shape
+element c = shapeIn (c .descriptor)
+
+-- its tests, given the length of the shortest buffer
+abbrev pub tests : Call → ℕ → List Test
+tests c room = flatTests (c .depth) (c .w) (c .h) (c .source) (wellMade (c .descriptor)) room
+
+pub tests-numbered : (c : Call) (room : ℕ) → Numbered (tests c room)
+tests-numbered c room = numbered (c .depth) (c .w) (c .h) (c .source) (wellMade (c .descriptor)) room
+
+-- of erosion and dilation
+abbrev pub call : (κs : Lfts 3) → Dens κs one.ps → AtExit (endedOf 3 one.ps one.r) κs → Call
+call κs a e =
+    record {
+      depth = a .0;
+      w = a .1 .0;
+      h = a .1 .1 .0;
+      source = a .1 .1 .1 .0 .now;
+      descriptor = a .1 .1 .1 .1 .0 .now;
+      before = a .1 .1 .1 .1 .1 .0 .now;
+      after = e .1 .1 .1 .1 .1 .0 .now;
+    }
+
+abbrev pub testsOnce : Call → List Test
+testsOnce c = tests c (length (c .before))
+
+-- of opening and closing, and their scratch before and after
+pub record Twice : Type 0 where
+  pub to-target : Call
+  pub before : List ℕ
+  pub after : List ℕ
+
+abbrev pub twice : (κs : Lfts 4) → Dens κs two.ps → AtExit (endedOf 4 two.ps two.r) κs → Twice
+twice κs a e =
+    record {
+      to-target = record {
+        depth = a .0;
+        w = a .1 .0;
+        h = a .1 .1 .0;
+        source = a .1 .1 .1 .0 .now;
+        descriptor = a .1 .1 .1 .1 .0 .now;
+        before = a .1 .1 .1 .1 .1 .0 .now;
+        after = e .1 .1 .1 .1 .1 .0 .now;
+      };
+      before = a .1 .1 .1 .1 .1 .1 .0 .now;
+      after = e .1 .1 .1 .1 .1 .1 .0 .now;
+    }
+
+abbrev pub testsTwice : Twice → List Test
+testsTwice c = tests (c .to-target) (min (length (c .to-target .before)) (length (c .before)))
+
+-- of hit-or-miss
+pub record HitCall : Type 0 where
+  pub w : ℕ
+  pub h : ℕ
+  pub source : List ℕ
+  pub hit : List ℕ
+  pub miss : List ℕ
+  pub before : List ℕ
+  pub after : List ℕ
+
+abbrev pub hitCall : (κs : Lfts 4) → Dens κs pair.ps → AtExit (endedOf 4 pair.ps pair.r) κs → HitCall
+hitCall κs a e =
+    record {
+      w = a .0;
+      h = a .1 .0;
+      source = a .1 .1 .0 .now;
+      hit = a .1 .1 .1 .0 .now;
+      miss = a .1 .1 .1 .1 .0 .now;
+      before = a .1 .1 .1 .1 .1 .0 .now;
+      after = e .1 .1 .1 .1 .1 .0 .now;
+    }
+
+abbrev pub testsHit : HitCall → List Test
+testsHit c = hitTests (c .w) (c .h) (c .source) (c .hit) (c .miss) (length (c .before))

@@ -1,0 +1,67 @@
+-- Demand 1: every input gets exactly one answer, and which; and a refusal changes no lent byte. That there is an answer at all, the prover has
+-- it: no function here asks anything of its caller. That there are not two: crates/flat/proofs/Settled.antt.
+use Prim.Native.Nat.{min}
+use mathlib.Core.Logic.{_↔_}
+use lib.Dec.{T}
+use lib.ListN.{length}
+use Rattle.answer.specs.Answer.{told}
+use Rattle.element.specs.Shape.{Shape, Offset}
+use Rattle.morphology.specs.Step.{Has}
+use Rattle.morphology.specs.Overlap.{shared}
+use Rattle.morphology.proofs.Overlap.{shared-sound, shared-complete}
+use Rattle.flat.proofs.Pair.{hit-numbered}
+use Rattle.flat.proofs.erode.Kinds as erode-kinds
+use Rattle.flat.proofs.erode.Reads as erode-reads
+use Rattle.flat.proofs.dilate.Kinds as dilate-kinds
+use Rattle.flat.proofs.dilate.Reads as dilate-reads
+use Rattle.flat.proofs.open.Kinds as open-kinds
+use Rattle.flat.proofs.open.Reads as open-reads
+use Rattle.flat.proofs.close.Kinds as close-kinds
+use Rattle.flat.proofs.close.Reads as close-reads
+use Rattle.flat.proofs.hit_or_miss.Kinds as hit-or-miss-kinds
+use Rattle.flat.proofs.hit_or_miss.Reads as hit-or-miss-reads
+use Rattle.demands.specs.Demands.{Every, Exactly, Kept}
+use Rattle.demands.proofs.Laws.{exactly-of, kept-of}
+use Rattle.demands.proofs.Calls.{tests-numbered, call, testsOnce, twice, testsTwice, hitCall, testsHit}
+
+pub erode-exactly : Every 3 erode-kinds.ps erode-kinds.r erode-reads.Learnt (λ κs a r e. let c = call κs a e in Exactly (testsOnce c) (told r))
+erode-exactly κs a r e p = let c = call κs a e in exactly-of (testsOnce c) (told r) (tests-numbered c (length (c .before))) (p .0)
+
+pub erode-kept : Every 3 erode-kinds.ps erode-kinds.r erode-reads.Learnt (λ κs a r e. let c = call κs a e in Kept (testsOnce c) (c .before) (c .after))
+erode-kept κs a r e p = kept-of (testsOnce (call κs a e)) _ _ _ (p .1)
+
+pub dilate-exactly : Every 3 dilate-kinds.ps dilate-kinds.r dilate-reads.Learnt (λ κs a r e. let c = call κs a e in Exactly (testsOnce c) (told r))
+dilate-exactly κs a r e p = let c = call κs a e in exactly-of (testsOnce c) (told r) (tests-numbered c (length (c .before))) (p .0)
+
+pub dilate-kept : Every 3 dilate-kinds.ps dilate-kinds.r dilate-reads.Learnt (λ κs a r e. let c = call κs a e in Kept (testsOnce c) (c .before) (c .after))
+dilate-kept κs a r e p = kept-of (testsOnce (call κs a e)) _ _ _ (p .1)
+
+pub open-exactly : Every 4 open-kinds.ps open-kinds.r open-reads.Learnt (λ κs a r e. let c = twice κs a e in Exactly (testsTwice c) (told r))
+open-exactly κs a r e p = let c = twice κs a e in exactly-of (testsTwice c) (told r) (tests-numbered (c .to-target) (min (length (c .to-target .before)) (length (c .before)))) (p .0)
+
+pub open-kept : Every 4 open-kinds.ps open-kinds.r open-reads.Learnt (λ κs a r e. let c = twice κs a e in Kept (testsTwice c) (c .to-target .before) (c .to-target .after))
+open-kept κs a r e p = kept-of (testsTwice (twice κs a e)) _ _ _ (p .1 .0)
+
+pub open-kept-scratch : Every 4 open-kinds.ps open-kinds.r open-reads.Learnt (λ κs a r e. let c = twice κs a e in Kept (testsTwice c) (c .before) (c .after))
+open-kept-scratch κs a r e p = kept-of (testsTwice (twice κs a e)) _ _ _ (p .1 .1)
+
+pub close-exactly : Every 4 close-kinds.ps close-kinds.r close-reads.Learnt (λ κs a r e. let c = twice κs a e in Exactly (testsTwice c) (told r))
+close-exactly κs a r e p = let c = twice κs a e in exactly-of (testsTwice c) (told r) (tests-numbered (c .to-target) (min (length (c .to-target .before)) (length (c .before)))) (p .0)
+
+pub close-kept : Every 4 close-kinds.ps close-kinds.r close-reads.Learnt (λ κs a r e. let c = twice κs a e in Kept (testsTwice c) (c .to-target .before) (c .to-target .after))
+close-kept κs a r e p = kept-of (testsTwice (twice κs a e)) _ _ _ (p .1 .0)
+
+pub close-kept-scratch : Every 4 close-kinds.ps close-kinds.r close-reads.Learnt (λ κs a r e. let c = twice κs a e in Kept (testsTwice c) (c .before) (c .after))
+close-kept-scratch κs a r e p = kept-of (testsTwice (twice κs a e)) _ _ _ (p .1 .1)
+
+pub hit-or-miss-exactly : Every 4 hit-or-miss-kinds.ps hit-or-miss-kinds.r hit-or-miss-reads.Learnt (λ κs a r e. let c = hitCall κs a e in Exactly (testsHit c) (told r))
+hit-or-miss-exactly κs a r e p =
+    let c = hitCall κs a e in
+    exactly-of (testsHit c) (told r) (hit-numbered (c .w) (c .h) (c .source) (c .hit) (c .miss) (length (c .before))) (p .0)
+
+pub hit-or-miss-kept : Every 4 hit-or-miss-kinds.ps hit-or-miss-kinds.r hit-or-miss-reads.Learnt (λ κs a r e. let c = hitCall κs a e in Kept (testsHit c) (c .before) (c .after))
+hit-or-miss-kept κs a r e p = kept-of (testsHit (hitCall κs a e)) _ _ _ (p .1)
+
+-- OVERLAP is given where some offset is one of both elements: the test holds exactly there
+pub overlap-exactly : (B C : Shape) → T (shared B C) ↔ ((o : Offset) × (Has B o × Has C o))
+overlap-exactly B C = (shared-sound B C, λ k. shared-complete B C (k .0) (k .1 .0) (k .1 .1))

@@ -1,0 +1,71 @@
+-- Demand 2: what an operation writes is, at each point of the frame, what the definition has there.
+use mathlib.Core.Bool.{true, false}
+use Rattle.picture.specs.declared.Depth.the-variants.{OneBit}
+use Rattle.picture.specs.Frame.{top}
+use Rattle.picture.specs.Points.{valueAt}
+use Rattle.element.specs.Descriptor.{shapeIn}
+use Rattle.morphology.specs.Operations.{erode, dilate, opening, closing, hitMiss}
+use Rattle.morphology.specs.Worked.{frame}
+use Rattle.flat.proofs.erode.Kinds as erode-kinds
+use Rattle.flat.proofs.erode.Reads as erode-reads
+use Rattle.flat.proofs.dilate.Kinds as dilate-kinds
+use Rattle.flat.proofs.dilate.Reads as dilate-reads
+use Rattle.flat.proofs.open.Kinds as open-kinds
+use Rattle.flat.proofs.open.Reads as open-reads
+use Rattle.flat.proofs.close.Kinds as close-kinds
+use Rattle.flat.proofs.close.Reads as close-reads
+use Rattle.flat.proofs.hit_or_miss.Kinds as hit-or-miss-kinds
+use Rattle.flat.proofs.hit_or_miss.Reads as hit-or-miss-reads
+use Rattle.flat.proofs.Given.{swept-one, twice-one}
+use Rattle.demands.specs.Demands.{Every, Shows}
+use Rattle.demands.proofs.Laws.{shows-of, hit-one}
+use Rattle.demands.proofs.Calls.{within, picture, element, call, testsOnce, twice, testsTwice, hitCall, testsHit}
+
+pub erode-shows : Every 3 erode-kinds.ps erode-kinds.r erode-reads.Learnt
+    (λ κs a r e. let c = call κs a e in Shows (testsOnce c) (c .depth) (c .w) (c .h) (c .after) (erode (top (c .depth)) (within c) (element c) (picture c)))
+erode-shows κs a r e p =
+    let c = call κs a e in
+    shows-of (testsOnce c) (c .depth) _ (c .w) (c .h) _ _ (λ o. swept-one (c .depth) (c .w) (c .h) (element c) (c .source) o false) (p .1)
+
+pub dilate-shows : Every 3 dilate-kinds.ps dilate-kinds.r dilate-reads.Learnt
+    (λ κs a r e. let c = call κs a e in Shows (testsOnce c) (c .depth) (c .w) (c .h) (c .after) (dilate (within c) (element c) (picture c)))
+dilate-shows κs a r e p =
+    let c = call κs a e in
+    shows-of (testsOnce c) (c .depth) _ (c .w) (c .h) _ _ (λ o. swept-one (c .depth) (c .w) (c .h) (element c) (c .source) o true) (p .1)
+
+pub open-shows : Every 4 open-kinds.ps open-kinds.r open-reads.Learnt
+    (λ κs a r e. let c = twice κs a e .to-target in
+    Shows (testsTwice (twice κs a e)) (c .depth) (c .w) (c .h) (c .after) (opening (top (c .depth)) (within c) (element c) (picture c)))
+open-shows κs a r e p =
+    let c = twice κs a e .to-target in
+    shows-of (testsTwice (twice κs a e)) (c .depth) _ (c .w) (c .h) _ _ (λ o. twice-one (c .depth) (c .w) (c .h) (element c) (c .source) o false true) (p .1 .0)
+
+-- the scratch shows the middle picture
+pub open-shows-middle : Every 4 open-kinds.ps open-kinds.r open-reads.Learnt
+    (λ κs a r e. let c = twice κs a e .to-target in
+    Shows (testsTwice (twice κs a e)) (c .depth) (c .w) (c .h) (twice κs a e .after) (erode (top (c .depth)) (within c) (element c) (picture c)))
+open-shows-middle κs a r e p =
+    let c = twice κs a e .to-target in
+    shows-of (testsTwice (twice κs a e)) (c .depth) _ (c .w) (c .h) _ _ (λ o. swept-one (c .depth) (c .w) (c .h) (element c) (c .source) o false) (p .1 .1)
+
+pub close-shows : Every 4 close-kinds.ps close-kinds.r close-reads.Learnt
+    (λ κs a r e. let c = twice κs a e .to-target in
+    Shows (testsTwice (twice κs a e)) (c .depth) (c .w) (c .h) (c .after) (closing (top (c .depth)) (within c) (element c) (picture c)))
+close-shows κs a r e p =
+    let c = twice κs a e .to-target in
+    shows-of (testsTwice (twice κs a e)) (c .depth) _ (c .w) (c .h) _ _ (λ o. twice-one (c .depth) (c .w) (c .h) (element c) (c .source) o true false) (p .1 .0)
+
+-- the scratch shows the middle picture
+pub close-shows-middle : Every 4 close-kinds.ps close-kinds.r close-reads.Learnt
+    (λ κs a r e. let c = twice κs a e .to-target in
+    Shows (testsTwice (twice κs a e)) (c .depth) (c .w) (c .h) (twice κs a e .after) (dilate (within c) (element c) (picture c)))
+close-shows-middle κs a r e p =
+    let c = twice κs a e .to-target in
+    shows-of (testsTwice (twice κs a e)) (c .depth) _ (c .w) (c .h) _ _ (λ o. swept-one (c .depth) (c .w) (c .h) (element c) (c .source) o true) (p .1 .1)
+
+pub hit-or-miss-shows : Every 4 hit-or-miss-kinds.ps hit-or-miss-kinds.r hit-or-miss-reads.Learnt
+    (λ κs a r e. let c = hitCall κs a e in
+    Shows (testsHit c) OneBit (c .w) (c .h) (c .after) (hitMiss (frame (c .w) (c .h)) (shapeIn (c .hit)) (shapeIn (c .miss)) (valueAt OneBit (c .source) (c .w))))
+hit-or-miss-shows κs a r e p =
+    let c = hitCall κs a e in
+    shows-of (testsHit c) OneBit _ (c .w) (c .h) _ _ (λ o x y lx ly. hit-one (c .w) (c .h) (shapeIn (c .hit)) (shapeIn (c .miss)) (valueAt OneBit (c .source) (c .w)) x y) (p .1)

@@ -1,0 +1,4 @@
+pub mod Fixed
+pub mod Seek
+pub mod Laws
+pub mod Settled

@@ -1,0 +1,124 @@
+// The chain check on elements by value: the first offset, in row order, at which an element and the chain of its links part.
+use answer::Answer;
+use element::Element;
+use element::MOST_CELLS;
+use picture::Ping;
+use picture::Point;
+use reach::CENTRE;
+use reach::MOST_LINKS;
+use reach::Offset;
+use reach::SUMS;
+use reach::Sum;
+ghost use mathlib.Core.Path.{_≡_};
+ghost use Prim.Native.Nat.{_≤_, _<_};
+ghost use lib.ListN.{take};
+ghost use Rattle.answer.specs.Answer.{told};
+ghost use Rattle.element.specs.Descriptor.{mostCells};
+ghost use Rattle.element.specs.Record.{shapeOf};
+ghost use Rattle.morphology.specs.Chain.{mostLinks, Chained};
+ghost use Rattle.morphology.specs.Check.{hasTest, pathTest, checkOf};
+ghost use Rattle.reach.specs.Boards.{shapesOf, placeOf, holdsOf, Small, Linked};
+ghost use Rattle.faults.specs.Faults.{elementWith, faultBy, offsetNo, allOffsets, answerOf, OneByte};
+
+// No offset of an element and no sum of a chain lies further than this from 0: the first offset of a row that is scanned, how many a row has, and all.
+const FAR: usize = 63;
+
+const FIRST: usize = CENTRE - FAR;
+
+const ROW: usize = FAR + 1 + FAR;
+
+const ALL: usize = ROW * ROW;
+
+// The element has the offset.
+fn has(cells: &[u32; MOST_CELLS], w: usize, h: usize, origin: Point, at: Offset) -> bool
+    requires { ⌜ (w ≤ mostCells) × (h ≤ mostCells) ⌝ }
+    requires { ⌜ OneByte at ⌝ }
+    ensures { λ r. ⌜ r ≡ hasTest (shapeOf (elementWith (now (cells .entry)) w h origin)) (placeOf at) ⌝ }
+{
+    let p = origin.ping;
+    let b = origin.bin;
+    let column = at.x + p.0 as usize;
+    let row = at.y + b.0 as usize;
+    if column < CENTRE {
+        return false;
+    }
+    if row < CENTRE {
+        return false;
+    }
+    if w <= column - CENTRE {
+        return false;
+    }
+    if h <= row - CENTRE {
+        return false;
+    }
+    element::cell(cells[row - CENTRE], Ping((column - CENTRE) as u16))
+}
+
+// The offset is at fault, by the board of all sums, on which `zero` stands for the offset (0, 0). A path is looked for only where the element has the offset and it is a sum.
+fn at_fault(
+    cells: &[u32; MOST_CELLS],
+    w: usize,
+    h: usize,
+    origin: Point,
+    words: &[u64; SUMS],
+    zero: Sum,
+    links: [Element; MOST_LINKS],
+    k: usize,
+    at: Offset,
+) -> bool
+    requires { ⌜ (w ≤ mostCells) × (h ≤ mostCells) ⌝ }
+    requires { ⌜ Small zero ⌝ }
+    requires { ⌜ Linked links k ⌝ }
+    requires { ⌜ OneByte at ⌝ }
+    ensures { λ r. ⌜ r ≡ faultBy (hasTest (shapeOf (elementWith (now (cells .entry)) w h origin)) (placeOf at)) (holdsOf (now (words .entry)) zero at) (pathTest (shapesOf (take k links)) (placeOf at)) ⌝ }
+{
+    let sum = reach::holds(words, zero, at);
+    if has(cells, w, h, origin, at) {
+        if sum {
+            return !reach::path(links, k, at);
+        }
+        return true;
+    }
+    sum
+}
+
+// The offsets from -63 to 63, row after row, by number.
+fn offset_no(n: usize) -> Offset
+    requires { ⌜ n < allOffsets ⌝ }
+    ensures { λ r. ⌜ (r ≡ offsetNo n) × OneByte r ⌝ }
+{
+    Offset {
+        x: FIRST + n % ROW,
+        y: FIRST + n / ROW,
+    }
+}
+
+// The check of an element and the first k of its links.
+pub fn check(e: Element, links: [Element; MOST_LINKS], k: usize) -> Answer
+    requires { ⌜ Chained (shapeOf e) (shapesOf (take k links)) ⌝ }
+    requires { ⌜ k ≤ mostLinks ⌝ }
+    ensures { λ r. ⌜ told r ≡ told (answerOf (checkOf (shapeOf e) (shapesOf (take k links)))) ⌝ }
+{
+    let cells = e.rows;
+    let sums = reach::all_sums(links, k);
+    let words = sums.words;
+    let mut n = 0;
+    while n < ALL {
+        let at = offset_no(n);
+        if at_fault(
+            &cells,
+            e.w,
+            e.h,
+            e.origin,
+            &words,
+            sums.origin,
+            links,
+            k,
+            at,
+        ) {
+            return Answer::Split(at.x as u8, at.y as u8);
+        }
+        n += 1;
+    }
+    Answer::Done
+}

@@ -1,0 +1,56 @@
+-- Row after row of an element, folded into a row of bytes: over any function on the source's value and the height of a cell.
+use Prim.Native.Nat.{ℕ, _+_, _<_}
+use mathlib.Core.Path.{_≡_, sym, ap, _∙_}
+use mathlib.Core.Bool.{Bool, true, false, cond}
+use mathlib.Core.List.{List}
+use native.Mathlib.Numerals.{add-one}
+use lib.ListN.{getD}
+use Rattle.basics.specs.Lists.{firsts}
+use Rattle.basics.proofs.Lists.{getD-firsts, firsts-same}
+use Rattle.picture.specs.Bytes.{Picture}
+use Rattle.element.specs.Shape.{Shape}
+use Rattle.morphology.specs.Operations.{Change, moved, within}
+use Rattle.morphology.specs.Worked.{frame}
+use Rattle.rows.specs.Fold.{plusBy, minusBy, startBy, sweptBy, foldedAt}
+use Rattle.rows.specs.Row.{foldedRow}
+use Rattle.rows.proofs.Nest.{rowsAt, rows-at-none, rows-at-more, rows-at-all}
+
+module _ (grows : Bool) (change : Change) (top w h : ℕ) (B : Shape) (A : Picture) (y : ℕ) where
+  -- column x of row y after the first n rows of the element, and all columns
+  abbrev at : ℕ → ℕ → ℕ
+  at n x = rowsAt grows change top (frame w h) B A x y n
+
+  unfoldable pub columnsAfter : ℕ → List ℕ
+  columnsAfter n = firsts (at n) w
+
+  pub columns-none : (f : ℕ → ℕ) → ((x : ℕ) → x < w → f x ≡ startBy grows top) → firsts f w ≡ columnsAfter 0
+  unfolding columnsAfter
+  columns-none f e = firsts-same _ _ w (λ x l. e x l ∙ sym (rows-at-none grows change top (frame w h) B A x y))
+
+  -- one row more, from the source row that it leads to, where the frame has that row
+  pub columns-more : (n : ℕ) (t u : List ℕ) → t ≡ columnsAfter n
+      → u ≡ cond (within h y (plusBy grows (B .origin-row) n) (minusBy grows (B .origin-row) n))
+      (foldedRow grows change (λ c. B .height c n) t (λ x. A x (moved y (plusBy grows (B .origin-row) n) (minusBy grows (B .origin-row) n))) w (λ c. B .has c n) (B .wide) (B .origin-column)) t
+      → u ≡ columnsAfter (n + 1)
+  unfolding columnsAfter foldedRow
+  columns-more n t u et eu =
+      eu ∙ rw (add-one n)
+      (go (within h y (plusBy grows (B .origin-row) n) (minusBy grows (B .origin-row) n))
+      ∙ firsts-same _ _ w (λ x l. sym (rows-at-more grows change top (frame w h) B A x y n)))
+    where
+      folded : ℕ → ℕ → ℕ
+      folded q x =
+          foldedAt grows change (λ c. B .height c n) (λ x. A x (moved y (plusBy grows (B .origin-row) n) (minusBy grows (B .origin-row) n))) w (λ c. B .has c n)
+          (B .wide) (B .origin-column) q x
+
+      now-at : (x : ℕ) → x < w → getD t x 0 ≡ at n x
+      now-at x l = ap (λ q. getD q x 0) et ∙ getD-firsts (at n) w x l
+
+      go : (b : Bool) → cond b (firsts (λ x. folded (getD t x 0) x) w) t ≡ firsts (λ x. cond b (folded (at n x) x) (at n x)) w
+      go true = firsts-same _ _ w (λ x l. ap (λ q. folded q x) (now-at x l))
+      go false = et
+
+  -- after all of them it is the definition's
+  pub columns-all : (n : ℕ) (t : List ℕ) → t ≡ columnsAfter n → n ≡ B .high → t ≡ firsts (λ x. sweptBy grows change top (frame w h) B A x y) w
+  unfolding columnsAfter
+  columns-all n t q e = q ∙ ap columnsAfter e ∙ firsts-same _ _ w (λ x l. rows-at-all grows change top (frame w h) B A x y)

@@ -1,0 +1,9 @@
+pub mod Zip
+pub mod Cell
+pub mod Fold
+pub mod Nest
+pub mod Columns
+pub mod Source
+pub mod Packed
+pub mod Swept
+pub mod Settled

@@ -1,0 +1,12 @@
+-- Any two outcomes that a contract allows of one call are the same: for each public function, of its contract itself, as the prover reads it.
+use Rattle.basics.proofs.Settled.{Settles, SettlesBytes, settled}
+use Rattle.rows.proofs.task_of.Kinds as task-of-kinds
+use Rattle.rows.proofs.task_of.Reads as task-of
+use Rattle.rows.proofs.make_row.Kinds as make-row-kinds
+use Rattle.rows.proofs.make_row.Reads as make-row
+
+pub task-of-settled : Settles 0 task-of-kinds.ps task-of-kinds.r task-of.Learnt
+task-of-settled κs a x y s t p q = settled p q
+
+pub make-row-settled : SettlesBytes 3 make-row-kinds.ps make-row-kinds.r make-row.Learnt (λ κs e. e .1 .0 .now)
+make-row-settled κs a x y s t p q = settled p q
