@@ -6,3 +6,4 @@ pub mod Agree
 pub mod Lone
 pub mod Differences
 pub mod Demand3
+pub mod Drawn

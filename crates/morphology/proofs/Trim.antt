@@ -52,7 +52,7 @@ unfolding scan
 scan-same f g same x k zero y = refl
 scan-same f g same x k (suc n) y = row-same f g same y k x _ _ (scan-same f g same x k n (suc y))
 
-any-same : (f g : ℕ → Bool) (n : ℕ) → ((i : ℕ) → i < n → f i ≡ g i) → any f n ≡ any g n
+pub any-same : (f g : ℕ → Bool) (n : ℕ) → ((i : ℕ) → i < n → f i ≡ g i) → any f n ≡ any g n
 unfolding any
 any-same f g zero each = refl
 any-same f g (suc n) each = ap₂ (λ b a. elim b [ true ↦ true | false ↦ a ]) (each n (omega arith)) (any-same f g n (λ i l. each i (omega arith)))

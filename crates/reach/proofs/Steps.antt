@@ -16,6 +16,7 @@ use Rattle.element.specs.declared.Element.{Element}
 use Rattle.element.specs.Record.{cellOn, shapeOf}
 use Rattle.morphology.specs.Step.{Place}
 use Rattle.morphology.specs.Check.{any, total, backX, backY}
+use Rattle.morphology.proofs.Trim.{any-same}
 use Rattle.reach.specs.declared.Cut.{Cut}
 use Rattle.reach.specs.declared.Bounds.{Bounds}
 use Rattle.reach.specs.declared.Sum.{Sum}
@@ -33,11 +34,6 @@ any-step f n = by (f n) (any f n)
     by true false = refl
     by false true = refl
     by false false = refl
-
-any-same : {f g : ℕ → Bool} (n : ℕ) → ((i : ℕ) → i < n → f i ≡ g i) → any f n ≡ any g n
-unfolding any
-any-same zero h = refl
-any-same (suc n) h = ap₂ (λ b a. elim b [ true ↦ true | false ↦ a ]) (h n (omega arith)) (any-same n (λ i l. h i (omega arith)))
 
 leb-same : (a b c d : ℕ) → (a ≤ b → c ≤ d) → (c ≤ d → a ≤ b) → leb a b ≡ leb c d
 leb-same a b c d f g = by (decLe a b)
@@ -89,7 +85,7 @@ row-bit board cells w y zero X h = on-none X
 row-bit board cells w y (suc n) X h =
     spread-bit (rowOf board cells w y n) (lineOf board y n) (getD cells n 0) w X h
     ∙ ap₂ (λ s t. s || t) (row-bit board cells w y n X h)
-    (any-same w (λ c _. ap (λ t. cellOn (getD cells n 0) c && (leb c X && t)) (line-bit board y n (X - c))))
+    (any-same _ _ w (λ c _. ap (λ t. cellOn (getD cells n 0) c && (leb c X && t)) (line-bit board y n (X - c))))
     ∙ sym (any-step (λ r. any (leadsIn board cells X y r) w) n)
 
 mask-bit : (left right X : ℕ) → X < 64 → on (maskOf left right) X ≡ (leb left X && ltb X right)
@@ -195,7 +191,7 @@ unfolding onwardOf nextPlaces shapeOf
 next-agree m e ox oy words S lx ly so X Y hx hy =
     step-bit words (e .rows) (e .w) (e .h) _ X Y hx hy
     ∙ ap₂ (λ s t. s && t) (cut-inside (record { column = ox + e .origin .ping .0; row = oy + e .origin .bin .0 }) m X Y hx hy lx ly)
-    (any-same (e .h) (λ r _. any-same (e .w) (λ c _. ap (λ t. cellOn (getD (e .rows) r 0) c && (leb c X && (leb r Y && t)))
+    (any-same _ _ (e .h) (λ r _. any-same _ _ (e .w) (λ c _. ap (λ t. cellOn (getD (e .rows) r 0) c && (leb c X && (leb r Y && t)))
     (so (X - c) (Y - r) (omega arith) (omega arith)))))
 
 from-agree : (m : Bounds) (es : List Element) (ox oy : ℕ) (words : List ℕ) (S : Places) → ox + backX (shapesOf es) ≤ 128 → oy + backY (shapesOf es) ≤ 128 → Agree words S
