@@ -3,3 +3,4 @@ pub mod OneToOne
 pub mod Order
 pub mod Settled
 pub mod Lent
+pub mod Packed

@@ -1,7 +1,7 @@
 -- The one lemma of refusals in order.
 use Prim.Native.Nat.{ℕ, _<_}
-use mathlib.Core.Path.{_≡_, refl, ap, subst}
-use mathlib.Core.Bool.{true, false}
+use mathlib.Core.Path.{_≡_, refl, ap, _∙_, subst}
+use mathlib.Core.Bool.{true, false, cond}
 use mathlib.Core.List.{List, [], _∷_}
 use mathlib.Core.Logic.{_⊎_, inl, inr, ⊎-elim, _↔_}
 use native.Mathlib.Omega.{arith}
@@ -19,7 +19,7 @@ refused [] after = inl (end, refl)
 refused ((true, n) ∷ ts) after = inr (n, (here, refl))
 refused ((false, m) ∷ ts) after = ⊎-elim (λ o. inl (next (o .0), o .1)) (λ o. inr (o .0, (later (o .1 .0), o .1 .1))) (refused ts after)
 
-number-of : (m n : ℕ) → plain m ≡ plain n → m ≡ n
+pub number-of : (m n : ℕ) → plain m ≡ plain n → m ≡ n
 unfolding plain
 number-of m n e = ap (λ (t : Told). t .number) e
 
@@ -27,7 +27,7 @@ first-given : {ts : List Test} {n : ℕ} (after : Told) → FirstHolds ts n → 
 first-given after here = refl
 first-given after (later f) = first-given after f
 
-none-given : {ts : List Test} (after : Told) → NoneHolds ts → refuse ts after ≡ after
+pub none-given : {ts : List Test} (after : Told) → NoneHolds ts → refuse ts after ≡ after
 none-given after end = refl
 none-given after (next f) = none-given after f
 
@@ -58,8 +58,16 @@ abbrev pub NoneOf : List Test → Type 0
 NoneOf [] = Unit {0}
 NoneOf (t ∷ ts) = (t .0 ≡ false) × NoneOf ts
 
-pub none-of : (ts : List Test) → Numbered ts → isDone (refuse ts (plain 0)) ≡ true → NoneOf ts
+-- where the answer is done no test held, and what follows is done too
+pub passed-all : (ts : List Test) (after : Told) → Numbered ts → isDone (refuse ts after) ≡ true → NoneOf ts × (isDone after ≡ true)
 unfolding plain
-none-of [] some e = tt
-none-of ((true, n) ∷ ts) some e = let z = eqb-true n 0 e in absurd (omega (arith, some .0))
-none-of ((false, n) ∷ ts) some e = (refl, none-of ts (some .1) e)
+passed-all [] after some e = (tt, e)
+passed-all ((true, n) ∷ ts) after some e = let z = eqb-true n 0 e in absurd (omega (arith, some .0))
+passed-all ((false, n) ∷ ts) after some e = let p = passed-all ts after (some .1) e in ((refl, p .0), p .1)
+
+pub none-of : (ts : List Test) → Numbered ts → isDone (refuse ts (plain 0)) ≡ true → NoneOf ts
+none-of ts some e = passed-all ts (plain 0) some e .0
+
+pub none-refuses : (ts : List Test) (after : Told) → NoneOf ts → refuse ts after ≡ after
+none-refuses [] after none = refl
+none-refuses ((b, n) ∷ ts) after none = ap (λ b. cond b (plain n) (refuse ts after)) (none .0) ∙ none-refuses ts after (none .1)

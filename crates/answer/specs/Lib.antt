@@ -1,3 +1,4 @@
 pub mod Answer
 pub mod Refuse
 pub mod Lent
+pub mod Packed

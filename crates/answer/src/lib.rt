@@ -1,7 +1,9 @@
 // What a call answers: done, or the first refusal that holds. One kind for the whole library.
 ghost use mathlib.Core.Path.{_≡_};
+ghost use Prim.Native.Nat.{_^_, _<_};
 ghost use lib.IntN.{subℕ};
 ghost use Rattle.answer.specs.Answer.{told, plain, isDone, centre};
+ghost use Rattle.answer.specs.Packed.{modByte, packed};
 
 pub enum Answer {
     Done,
@@ -70,4 +72,34 @@ pub fn is_done(a: Answer) -> bool
 {
     let t = tell(a);
     t.number == 0
+}
+
+// The coordinate that a byte of a split stands for, mod 256.
+fn mod_byte(x: u8) -> u32
+    ensures { λ r. ⌜ (r ≡ modByte (subℕ x centre)) × (r < 2 ^ 8) ⌝ }
+{
+    if 128 <= x {
+        (x - 128) as u32
+    } else {
+        (x as u32) + 128
+    }
+}
+
+// An answer in one number, for C: a plain number stays itself.
+pub fn pack(a: Answer) -> u32
+    ensures { λ r. ⌜ r ≡ packed (told a) ⌝ }
+{
+    match a {
+        Answer::Done => 0,
+        Answer::Size => 1,
+        Answer::Source => 2,
+        Answer::Pad => 3,
+        Answer::Shape => 4,
+        Answer::Overlap => 5,
+        Answer::Chain => 6,
+        Answer::Split(x, y) => 7 + mod_byte(x) * 0x100 + mod_byte(y) * 0x10000,
+        Answer::Room => 8,
+        Answer::Form => 9,
+        Answer::Job => 10,
+    }
 }

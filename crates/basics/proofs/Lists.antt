@@ -69,6 +69,10 @@ module _ (f : ℕ → ℕ) (m z : ℕ) where
       more : (n m : ℕ) → n < m → m - n ≡ suc (m - (n + 1))
       more n m h = omega arith
 
+  pub fill-store : (n : ℕ) (l : List ℕ) (v : ℕ) → n < m → l ≡ firsts f n ++ replicate (m - n) z → v ≡ f n
+      → set l n v ≡ firsts f (n + 1) ++ replicate (m - (n + 1)) z
+  fill-store n l v h e e' = ap₂ (λ t x. set t n x) e e' ∙ fill-more n h
+
 -- a part of n elements from the place a on
 pub part-length : {X : Type 0} (l : List X) (a n : ℕ) → a + n ≤ length l → length (take (a + n - a) (drop a l)) ≡ n
 part-length l a n h = simp (length-take, length-drop) (omega arith)

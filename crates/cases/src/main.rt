@@ -1,7 +1,7 @@
 // Runs the jobs in its input, and prints of each the answer and every buffer that was lent to be written. Nothing that it prints stands here.
 //
 // The input is text. A line that begins with # is printed as it is. A job begins with a letter (e, d, o, c, h: erode, dilate, open, close,
-// hit-or-miss), then numbers, which anything but a digit parts: the depth (1 or 8), W, H, and five buffers: source, element (or hit element),
+// hit-or-miss; E, D, O, C: the weighted operations), then numbers, which anything but a digit parts: the depth (1 or 8), W, H, and five buffers: source, element (or hit element),
 // miss element, target, scratch. A buffer is its length n, a count m, and m bytes; the bytes after the first m are like the last of these, or 0
 // where m is 0. A call takes of the five what it needs, and every job prints the answer's number, the target and the scratch: the
 // bytes in order, n*b for n bytes b in a row.
@@ -193,7 +193,11 @@ fn call(
         b'd' => flat::dilate(depth, w, h, source, element, target),
         b'o' => flat::open(depth, w, h, source, element, target, scratch),
         b'c' => flat::close(depth, w, h, source, element, target, scratch),
-        _ => flat::hit_or_miss(w, h, source, element, miss, target),
+        b'E' => weighted::erode(w, h, source, element, target),
+        b'D' => weighted::dilate(w, h, source, element, target),
+        b'O' => weighted::open(w, h, source, element, target, scratch),
+        b'C' => weighted::close(w, h, source, element, target, scratch),
+        _ => hit::hit_or_miss(w, h, source, element, miss, target),
     }
 }
 
@@ -269,6 +273,10 @@ fn starts_job(b: u8) -> bool {
         b'o' => true,
         b'c' => true,
         b'h' => true,
+        b'E' => true,
+        b'D' => true,
+        b'O' => true,
+        b'C' => true,
         _ => false,
     }
 }

@@ -14,7 +14,7 @@ use Rattle.basics.proofs.Tests.{both}
 use Rattle.answer.specs.declared.Told.{Told}
 use Rattle.answer.specs.declared.Answer.the-variants.{Chain}
 use Rattle.answer.specs.Answer.{told, plain}
-use Rattle.answer.specs.Refuse.{Test, refuse, FirstHolds, here, later, NoneHolds, end, next}
+use Rattle.answer.specs.Refuse.{Test, refuse, FirstHolds, here, later}
 use Rattle.answer.proofs.Order.{Numbered}
 use Rattle.element.specs.declared.Element.{Element}
 use Rattle.element.specs.Descriptor.{mostCells, wideOf, highOf, wellMade, shapeIn, cellAt, descriptorLength}
@@ -45,7 +45,7 @@ zero-none ((true, m) ∷ ts) some e = let z = eqb-true m 0 e in absurd (omega (a
 zero-none ((false, m) ∷ ts) some e = zero-none ts (some .1) e
 
 -- what passed tells of each link
-passed-here : (b s : Bool) (ts : List Test) → refuse ((not b, 4) ∷ (not s, 6) ∷ ts) (plain 0) ≡ plain 0
+pub passed-here : (b s : Bool) (ts : List Test) → refuse ((not b, 4) ∷ (not s, 6) ∷ ts) (plain 0) ≡ plain 0
     → (b ≡ true) × ((s ≡ true) × (refuse ts (plain 0) ≡ plain 0))
 unfolding plain
 passed-here true true ts e = (refl, (refl, e))
@@ -76,7 +76,7 @@ links-long (suc k) d = ap suc (links-long k (restOf d))
 pub few-links : (k : ℕ) → counted k ≡ true → k ≤ mostLinks
 few-links k right = leb-true k mostLinks (both (leb 1 k) (leb k mostLinks) right .1)
 
-some-links : (k : ℕ) → counted k ≡ true → 1 ≤ k
+pub some-links : (k : ℕ) → counted k ≡ true → 1 ≤ k
 some-links k right = leb-true 1 k (both (leb 1 k) (leb k mostLinks) right .0)
 
 -- where nothing is refused, the element and the chain are within the limits
@@ -229,7 +229,3 @@ unfolding checkTests chainTests
 check-number element k chain n f =
     first-number (not (wellMade element)) 4 n _ (λ n. (n ≡ 4) ⊎ (n ≡ 6)) (inl refl)
     (first-number (not (counted k)) 6 n _ (λ n. (n ≡ 4) ⊎ (n ≡ 6)) (inr refl) (links-number k chain n)) f
-
-pub none-holds : {ts : List Test} → NoneHolds ts → (after : Told) → refuse ts after ≡ after
-none-holds end after = refl
-none-holds (next f) after = none-holds f after

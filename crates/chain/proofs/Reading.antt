@@ -15,7 +15,7 @@ use Rattle.answer.specs.declared.Told.{Told}
 use Rattle.answer.specs.declared.Answer.the-variants.{Done, Shape, Chain}
 use Rattle.answer.specs.Answer.{told, plain}
 use Rattle.answer.specs.Refuse.{Test, refuse}
-use Rattle.answer.proofs.Order.{Numbered}
+use Rattle.answer.proofs.Order.{Numbered, number-of}
 use Rattle.element.specs.declared.Element.{Element}
 use Rattle.element.specs.declared.Read.{Read}
 use Rattle.element.specs.Descriptor.{wideOf, highOf, wellMade, descriptorLength}
@@ -25,10 +25,6 @@ use Rattle.chain.specs.declared.Links.{Links}
 use Rattle.chain.specs.Reading.{firstOf, restOf, small, linkTests, elementsIn}
 
 -- ---- refusals
-
-number-of : (m n : ℕ) → plain m ≡ plain n → m ≡ n
-unfolding plain
-number-of m n e = ap (λ (t : Told). t .number) e
 
 -- a list of refusals, as it stands before what follows: where none holds it is what follows, and else it does not ask what follows
 pub none-after : (ts : List Test) → Numbered ts → refuse ts (plain 0) ≡ plain 0 → (after : Told) → refuse ts after ≡ after
@@ -71,6 +67,23 @@ module _ (d : List ℕ) (r : Read) (so : ReadOf d r) where
 
 -- ---- one link after another
 
+-- the descriptor that begins at the place `at`, of n bytes
+module _ (d : List ℕ) (at n : ℕ) (inside : at ≤ length d) (en : n ≡ descriptorLength (take (length d - at) (drop at d))) where
+  len-is : n ≡ descriptorLength (drop at d)
+  len-is = en ∙ ap descriptorLength (tail-is d at)
+
+  pub ends-in : at + n ≤ length d
+  unfolding descriptorLength
+  ends-in = omega (arith, inside, len-is, length-drop at d)
+
+  pub first-is : take (at + n - at) (drop at d) ≡ firstOf (drop at d)
+  unfolding firstOf
+  first-is = ap (λ m. take m (drop at d)) (add-sub-cancel-left at n ∙ len-is)
+
+  pub rest-is : drop (at + n) d ≡ restOf (drop at d)
+  unfolding restOf
+  rest-is = sym (drop-drop n at d) ∙ ap (λ m. drop m (drop at d)) len-is
+
 -- link i begins at the place `at`: the refusal from here on is the refusal, and the elements so far with those from here on are all
 pub record Onward (d : List ℕ) (k : ℕ) (all : List Element) (i at : ℕ) : Type 0 where
   pub inside : at ≤ length d
@@ -93,20 +106,11 @@ Promised d k r = (told (r .answer) ≡ refuse (linkTests k d) (plain 0)) × (tol
 
 module _ (d : List ℕ) (k : ℕ) (all : List Element) (i at : ℕ) (o : Onward d k all i at) where
   module _ (more : i < k) (n : ℕ) (en : n ≡ descriptorLength (take (length d - at) (drop at d))) where
-    len-is : n ≡ descriptorLength (drop at d)
-    len-is = en ∙ ap descriptorLength (tail-is d at)
-
     pub end-in : at + n ≤ length d
-    unfolding descriptorLength
-    end-in = let h = o .inside in omega (arith, len-is, length-drop at d)
+    end-in = ends-in d at n (o .inside) en
 
-    pub first-is : take (at + n - at) (drop at d) ≡ firstOf (drop at d)
-    unfolding firstOf
-    first-is = ap (λ m. take m (drop at d)) (add-sub-cancel-left at n ∙ len-is)
-
-    rest-is : drop (at + n) d ≡ restOf (drop at d)
-    unfolding restOf
-    rest-is = sym (drop-drop n at d) ∙ ap (λ m. drop m (drop at d)) len-is
+    rest-here : drop (at + n) d ≡ restOf (drop at d)
+    rest-here = rest-is d at n (o .inside) en
 
     left : suc (k - suc i) ≡ k - i
     left = omega arith
@@ -123,7 +127,7 @@ module _ (d : List ℕ) (k : ℕ) (all : List Element) (i at : ℕ) (o : Onward 
 
     module _ (r : Read) (so : ReadOf (take (at + n - at) (drop at d)) r) where
       read-first : ReadOf (firstOf (drop at d)) r
-      read-first = subst (λ l. ReadOf l r) first-is so
+      read-first = subst (λ l. ReadOf l r) (first-is d at n (o .inside) en) so
 
       -- a link that is not well made
       pub link-unmade : eqb (told (r .answer) .number) 0 ≡ false → Promised d k (record { answer = r .answer; all = all })
@@ -155,10 +159,10 @@ module _ (d : List ℕ) (k : ℕ) (all : List Element) (i at : ℕ) (o : Onward 
             record {
               inside = end-in;
               long = length-set all i (r .element) ∙ o .long;
-              refusal = ap₂ (λ m l. refuse (linkTests m l) (plain 0)) (sym same) rest-is ∙ turn true true made (size-is true s);
+              refusal = ap₂ (λ m l. refuse (linkTests m l) (plain 0)) (sym same) rest-here ∙ turn true true made (size-is true s);
               elements =
                   ap₂ (λ a b. a ++ b) (ap (λ m. take m (set all i (r .element))) (add-one i) ∙ take-suc-set all i (r .element) (in-array (o .long)))
-                  (ap₂ (λ m l. elementsIn m l) (sym same) rest-is)
+                  (ap₂ (λ m l. elementsIn m l) (sym same) rest-here)
                   ∙ append-assoc (take i all) (r .element ∷ []) (elementsIn (k - suc i) (restOf (drop at d)))
                   ∙ ap (λ e. take i all ++ (e ∷ elementsIn (k - suc i) (restOf (drop at d)))) element-is
                   ∙ ap (λ m. take i all ++ elementsIn m (drop at d)) left ∙ o .elements;

@@ -3,7 +3,7 @@ use Prim.Native.Nat.{ℕ, _+_, _-_, _*_, _≤_}
 use mathlib.Core.Path.{_≡_}
 use mathlib.Core.Logic.{⊎-elim}
 use mathlib.Core.List.{List, [], _∷_}
-use native.Mathlib.Nat.{le-antisymm}
+use native.Mathlib.Nat.{le-antisymm, not-suc-le-zero}
 use native.Mathlib.Omega.{arith}
 use lib.ListN.{length}
 use Rattle.picture.specs.Frame.{Frame}
@@ -109,8 +109,14 @@ module _ (E : Shape) (Bs : List Shape) (C : Chained E Bs) where
         (le-eros top F Bs A p p′ (erode top F E A (p .x) (p .y)) o (erode-top flat top F E A p) (λ q q′ oq w.
         erode-le flat top F E A p q (opposite-in oq) (turned-back o oq (element-reaches q′ p′ w))))
 
-pub eros-top : (top : ℕ) (F : Frame) (Bs : List Shape) (A : Picture) → Bounded top F A
+eros-top : (top : ℕ) (F : Frame) (Bs : List Shape) (A : Picture) → Bounded top F A
     → (p : Place) → In F p → erodeAll top F Bs A (p .x) (p .y) ≤ top
 unfolding erodeAll
 eros-top top F [] A b p i = b p i
 eros-top top F (B ∷ Bs) A b p i = eros-top top F Bs (erode top F B A) (λ q iq. erode-top flat top F B A q) p i
+
+-- after one link or more no value is above top, whatever the picture
+pub eros-some : (top : ℕ) (F : Frame) (Bs : List Shape) (A : Picture) → 1 ≤ length Bs → (p : Place) → In F p → erodeAll top F Bs A (p .x) (p .y) ≤ top
+unfolding erodeAll
+eros-some top F [] A some p i = absurd (not-suc-le-zero some)
+eros-some top F (B ∷ Bs) A some p i = eros-top top F Bs (erode top F B A) (λ q iq. erode-top flat top F B A q) p i

@@ -8,18 +8,24 @@ use lib.ListN.{length}
 use Rattle.answer.specs.Refuse.{Test}
 use Rattle.answer.proofs.Order.{Numbered}
 use Rattle.picture.specs.declared.Depth.{Depth}
-use Rattle.picture.specs.Frame.{Frame}
+use Rattle.picture.specs.Frame.{Frame, frame}
 use Rattle.picture.specs.Points.{valueAt}
 use Rattle.picture.specs.Bytes.{Picture}
 use Rattle.element.specs.Shape.{Shape}
-use Rattle.element.specs.Descriptor.{wellMade, shapeIn}
-use Rattle.morphology.specs.Worked.{frame}
-use Rattle.flat.specs.Tests.{flatTests}
-use Rattle.flat.specs.Hit.{hitTests}
-use Rattle.flat.proofs.Given.{numbered}
+use Rattle.picture.specs.declared.Depth.the-variants.{EightBit}
+use Rattle.element.specs.Descriptor.{wellMade, shapeIn, weightedIn}
+use Rattle.operation.specs.Tests.{flatTests}
+use Rattle.hit.specs.Hit.{hitTests}
+use Rattle.operation.proofs.Given.{numbered}
 use Rattle.flat.proofs.erode.Kinds as one
 use Rattle.flat.proofs.open.Kinds as two
-use Rattle.flat.proofs.hit_or_miss.Kinds as pair
+use Rattle.chained.proofs.erode.Kinds as run
+use Rattle.demands.specs.Runs.{runTests}
+use Rattle.hit.proofs.hit_or_miss.Kinds as pair
+use Rattle.weighted.specs.Calls.{weightedTests}
+use Rattle.weighted.proofs.Padless.{weighted-numbered}
+use Rattle.weighted.proofs.erode.Kinds as weighted-one
+use Rattle.weighted.proofs.open.Kinds as weighted-two
 
 -- a call by one element: its arguments, and the bytes of its target before and after
 pub record Call : Type 0 where
@@ -87,6 +93,86 @@ twice κs a e =
 
 abbrev pub testsTwice : Twice → List Test
 testsTwice c = tests (c .to-target) (min (length (c .to-target .before)) (length (c .before)))
+
+-- of a chained run, and its two work buffers before and after
+pub record RunCall : Type 0 where
+  pub depth : Depth
+  pub w : ℕ
+  pub h : ℕ
+  pub source : List ℕ
+  pub element : List ℕ
+  pub links : ℕ
+  pub chain : List ℕ
+  pub first : List ℕ
+  pub second : List ℕ
+  pub first-after : List ℕ
+  pub second-after : List ℕ
+
+abbrev pub runCall : (κs : Lfts 5) → Dens κs run.ps → AtExit (endedOf 5 run.ps run.r) κs → RunCall
+runCall κs a e =
+    record {
+      depth = a .0;
+      w = a .1 .0;
+      h = a .1 .1 .0;
+      source = a .1 .1 .1 .0 .now;
+      element = a .1 .1 .1 .1 .0 .now;
+      links = a .1 .1 .1 .1 .1 .0;
+      chain = a .1 .1 .1 .1 .1 .1 .0 .now;
+      first = a .1 .1 .1 .1 .1 .1 .1 .0 .now;
+      second = a .1 .1 .1 .1 .1 .1 .1 .1 .0 .now;
+      first-after = e .1 .1 .1 .1 .1 .1 .1 .0 .now;
+      second-after = e .1 .1 .1 .1 .1 .1 .1 .1 .0 .now;
+    }
+
+abbrev pub roomRun : RunCall → ℕ
+roomRun c = min (length (c .first)) (length (c .second))
+
+abbrev pub testsRun : RunCall → List Test
+testsRun c = runTests (c .depth) (c .w) (c .h) (c .source) (c .element) (c .links) (c .chain) (roomRun c)
+
+-- of the weighted operations: 8-bit calls, with tests of their own
+abbrev pub weightedElement : Call → Shape
+weightedElement c = weightedIn (c .descriptor)
+
+abbrev pub weightedCall : (κs : Lfts 3) → Dens κs weighted-one.ps → AtExit (endedOf 3 weighted-one.ps weighted-one.r) κs → Call
+weightedCall κs a e =
+    record {
+      depth = EightBit;
+      w = a .0;
+      h = a .1 .0;
+      source = a .1 .1 .0 .now;
+      descriptor = a .1 .1 .1 .0 .now;
+      before = a .1 .1 .1 .1 .0 .now;
+      after = e .1 .1 .1 .1 .0 .now;
+    }
+
+abbrev pub weightedTwice : (κs : Lfts 4) → Dens κs weighted-two.ps → AtExit (endedOf 4 weighted-two.ps weighted-two.r) κs → Twice
+weightedTwice κs a e =
+    record {
+      to-target = record {
+        depth = EightBit;
+        w = a .0;
+        h = a .1 .0;
+        source = a .1 .1 .0 .now;
+        descriptor = a .1 .1 .1 .0 .now;
+        before = a .1 .1 .1 .1 .0 .now;
+        after = e .1 .1 .1 .1 .0 .now;
+      };
+      before = a .1 .1 .1 .1 .1 .0 .now;
+      after = e .1 .1 .1 .1 .1 .0 .now;
+    }
+
+abbrev pub testsWeighted : Call → ℕ → List Test
+testsWeighted c room = weightedTests (c .w) (c .h) (c .source) (c .descriptor) room
+
+abbrev pub weightedOnce : Call → List Test
+weightedOnce c = testsWeighted c (length (c .before))
+
+abbrev pub weightedBoth : Twice → List Test
+weightedBoth c = testsWeighted (c .to-target) (min (length (c .to-target .before)) (length (c .before)))
+
+pub weighted-tests-numbered : (c : Call) (room : ℕ) → Numbered (testsWeighted c room)
+weighted-tests-numbered c room = weighted-numbered (c .w) (c .h) (c .source) (c .descriptor) room
 
 -- of hit-or-miss
 pub record HitCall : Type 0 where

@@ -14,45 +14,53 @@ use denote.Triple.Clauses.{AtExit}
 use contract.Lifetimes.{Lfts}
 use Rattle.picture.specs.declared.Depth.{Depth}
 use Rattle.picture.specs.declared.Depth.the-variants.{OneBit, EightBit}
-use Rattle.picture.specs.Frame.{top}
+use Rattle.picture.specs.Frame.{Frame, top}
+use Rattle.picture.specs.Bytes.{Picture}
 use Rattle.answer.specs.declared.Answer.{Answer}
 use Rattle.answer.specs.declared.Told.{Told}
 use Rattle.answer.specs.Answer.{told, plain}
 use Rattle.answer.specs.Refuse.{NoneHolds}
-use Rattle.answer.proofs.Order.{refused, done-exactly}
+use Rattle.answer.proofs.Order.{refused, none-given, done-exactly}
 use Rattle.element.specs.Shape.{Shape, Offset}
 use Rattle.element.specs.Descriptor.{shapeIn}
 use Rattle.faults.specs.Faults.{answerOf}
 use Rattle.chain.specs.Reading.{checkTests, linksIn, checked}
 use Rattle.chain.proofs.check_chain.Kinds as kinds
 use Rattle.chain.proofs.check_chain.Reads as reads
-use Rattle.chain.proofs.Checking.{well-chained, check-number, check-numbered, none-holds}
-use Rattle.morphology.specs.Step.{Place}
-use Rattle.morphology.specs.Chain.{Fault, Accepted, First, Chained}
+use Rattle.chain.proofs.Checking.{well-chained, check-number, check-numbered}
+use Rattle.morphology.specs.Step.{Place, In}
+use Rattle.morphology.specs.Operations.{erode, dilate}
+use Rattle.morphology.specs.Chain.{Fault, Accepted, First, Chained, erodeAll, dilateAll}
 use Rattle.morphology.specs.Check.{value, Verdict, Taken, Split, checkOf, Says}
 use Rattle.morphology.specs.Demand.{Same, Differs, lone}
 use Rattle.morphology.proofs.Places.{FaultAt}
 use Rattle.morphology.proofs.Bridge.{fault-to, fault-place}
 use Rattle.morphology.proofs.Check.{check-says, says-once}
-use Rattle.demands.proofs.Agree.{same-dilated, same-eroded, eros-top}
+use Rattle.demands.proofs.Agree.{same-dilated, same-eroded, eros-some}
 use Rattle.demands.proofs.Lone.{lone-le}
 use Rattle.demands.proofs.Differences.{fault-differs, differs-fault}
 
-some-top : (depth : Depth) → 1 ≤ top depth
+pub some-top : (depth : Depth) → 1 ≤ top depth
 some-top OneBit = lit≤ tt
 some-top EightBit = lit≤ tt
 
 module _ (E : Shape) (Bs : List Shape) (C : Chained E Bs) where
+  -- where no offset is at fault the chain does what the element does, on any picture in any frame
+  module _ (none : Accepted E Bs) where
+    none-at : (e : Place) → ¬ FaultAt E Bs e
+    none-at e f = none (value e) (fault-to E Bs C e f)
+
+    pub accepted-dilated : (F : Frame) (A : Picture) (p : Place) → In F p → dilateAll F Bs A (p .x) (p .y) ≡ dilate F E A (p .x) (p .y)
+    accepted-dilated F A p i = same-dilated E Bs C none-at F A p i
+
+    pub accepted-eroded : (most : ℕ) (F : Frame) (A : Picture) (p : Place) → In F p → erodeAll most F Bs A (p .x) (p .y) ≡ erode most F E A (p .x) (p .y)
+    accepted-eroded most F A p i = same-eroded E Bs C none-at F most A p i (eros-some most F Bs A (C .some-links) p i)
+
   module _ (most : ℕ) (some : 1 ≤ most) where
     -- no offset is at fault exactly where the chain does what the element does, on every picture, in every frame and at every point
     pub accepted-is-same : Accepted E Bs ↔ Same most E Bs
     accepted-is-same = (
-      λ none.
-          let none-at : (e : Place) → ¬ FaultAt E Bs e = λ e f. none (value e) (fault-to E Bs C e f) in
-          record {
-            dilated = λ F l A b p i. same-dilated E Bs C none-at F A p i;
-            eroded = λ F l A b p i. same-eroded E Bs C none-at F most A p i (eros-top most F Bs A b p i);
-          },
+      λ none. record { dilated = λ F l A b. accepted-dilated none F A; eroded = λ F l A b. accepted-eroded none most F A },
       λ s e f.
           let d = fault-differs E Bs C most some e f in
           d .differ (s .dilated (d .frame) (d .limits) (lone most (d .echo)) (λ p i. lone-le most (d .echo) p) (d .point) (d .point-in)),
@@ -107,12 +115,12 @@ module _ (element chain : List ℕ) (k : ℕ) (r : Answer) (promised : told r �
       ⊎-elim (λ o. inl (o .0, promised ∙ o .1)) (λ o. inr (o .0, check-number element k chain (o .0) (o .1 .0), promised ∙ o .1 .1))
       (refused (checkTests element k chain) (told (answerOf (checkOf E Bs))))
 
-  chained : WellMade element k chain → Chained E Bs
+  pub chained : WellMade element k chain → Chained E Bs
   chained w = well-chained element chain k (done-exactly (checkTests element k chain) (check-numbered element k chain) .1 w)
 
   made-told : WellMade element k chain → told r ≡ told (answerOf (checkOf E Bs))
   unfolding checked
-  made-told w = promised ∙ none-holds w (told (answerOf (checkOf E Bs)))
+  made-told w = promised ∙ none-given (told (answerOf (checkOf E Bs))) w
 
   -- it is done exactly when element and chain are well made and do the same, on every picture, at both depths, in every frame within the limits
   pub done-is-same : (told r ≡ plain 0) ↔ (WellMade element k chain × ((depth : Depth) → Same (top depth) E Bs))

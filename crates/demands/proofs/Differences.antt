@@ -8,17 +8,12 @@ use Rattle.morphology.specs.Step.{Place, Plus}
 use Rattle.morphology.specs.Chain.{Fault, Chained}
 use Rattle.morphology.specs.Check.{value}
 use Rattle.morphology.specs.Demand.{Differs}
-use Rattle.morphology.proofs.Integers.{sub-moves}
 use Rattle.morphology.proofs.Places.{Moved}
 use Rattle.morphology.proofs.Bridge.{fault-to, fault-from, fault-place}
 use Rattle.demands.proofs.Agree.{offset}
-use Rattle.demands.proofs.Lone.{DiffersAt, fault-differs-at, differs-fault-at, differing-moved}
+use Rattle.demands.proofs.Lone.{moved-to, fault-differs-at, differing-moved, difference-fault}
 
 -- ---- a point moved by an offset
-
-moved-to : (e p q : Place) → Moved e p q → Plus p (value e) q
-moved-to e p q m =
-    record { across = sub-moves (p .x) (q .x) (e .x) 128 .1 (m .across); down = sub-moves (p .y) (q .y) (e .y) 128 .1 (m .down) }
 
 undo : (n : ℕ) (a : ℤ) → negℤ (pos n) +ℤ (pos n +ℤ a) ≡ a
 undo n a = sym (+ℤ-assoc (negℤ (pos n)) (pos n) a) ∙ (ap (λ z. z +ℤ a) (+ℤ-invl (pos n)) ∙ +ℤ-idl a)
@@ -37,35 +32,14 @@ moved-value p q e o h m =
 -- ---- faults are differences
 
 module _ (E : Shape) (Bs : List Shape) (C : Chained E Bs) (top : ℕ) (some : 1 ≤ top) where
-  differs-to : (e : Place) → DiffersAt top E Bs e → Differs top E Bs (value e)
-  differs-to e d =
-      record {
-        frame = d .frame;
-        limits = d .limits;
-        echo = d .echo;
-        point = d .point;
-        echo-in = d .echo-in;
-        point-in = d .point-in;
-        moved = moved-to e (d .echo) (d .point) (d .moved);
-        differ = d .differ;
-      }
-
   pub fault-differs : (e : Offset) → Fault E Bs e → Differs top E Bs e
   fault-differs e f =
       let p = fault-place E Bs C e f in
-      subst (Differs top E Bs) (p .1) (differs-to (p .0) (fault-differs-at E Bs C top (p .0) some (fault-from E Bs C (p .0) (subst (Fault E Bs) (sym (p .1)) f))))
+      subst (Differs top E Bs) (p .1) (fault-differs-at E Bs C top (p .0) some (fault-from E Bs C (p .0) (subst (Fault E Bs) (sym (p .1)) f)))
 
   pub differs-fault : (e : Offset) → Differs top E Bs e → Fault E Bs e
   differs-fault e d =
       let m = differing-moved E Bs C top (d .frame) (d .echo) (d .point) (d .echo-in) (d .point-in) (d .differ) in
       let p = offset (d .echo) (d .point) in
-      subst (Fault E Bs) (moved-value (d .echo) (d .point) p e (d .moved) m) (fault-to E Bs C p (differs-fault-at E Bs C top p some (record {
-        frame = d .frame;
-        limits = d .limits;
-        echo = d .echo;
-        point = d .point;
-        echo-in = d .echo-in;
-        point-in = d .point-in;
-        moved = m;
-        differ = d .differ;
-      })))
+      subst (Fault E Bs) (moved-value (d .echo) (d .point) p e (d .moved) m)
+      (fault-to E Bs C p (difference-fault E Bs C top (d .frame) (d .echo) (d .point) (d .echo-in) (d .point-in) (d .differ)))

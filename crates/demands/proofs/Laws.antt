@@ -17,7 +17,7 @@ use Rattle.picture.proofs.Shown.{written-shown}
 use Rattle.element.specs.Shape.{Shape}
 use Rattle.morphology.specs.Operations.{flat, hitMiss}
 use Rattle.morphology.proofs.Reach.{erode-top}
-use Rattle.morphology.specs.Worked.{frame}
+use Rattle.picture.specs.Frame.{frame}
 use Rattle.demands.specs.Demands.{Exactly, Kept, Shows}
 
 pub exactly-of : (ts : List Test) (answer : Told) → Numbered ts → answer ≡ refuse ts (plain 0) → Exactly ts answer

@@ -10,11 +10,12 @@ use lib.Dec.{T, leb, eqb, leb→le, le→leb, eqb→eq, eqb-refl, lit≤}
 use lib.ListN.{length}
 use Rattle.picture.specs.Frame.{Frame}
 use Rattle.element.specs.Shape.{Shape}
-use Rattle.morphology.specs.Step.{Place, In, Step}
+use Rattle.morphology.specs.Step.{Place, In, Plus, Step}
 use Rattle.morphology.specs.Operations.{flat, dilate}
 use Rattle.morphology.specs.Chain.{Chained, dilateAll}
-use Rattle.morphology.specs.Check.{still, faultTest}
-use Rattle.morphology.specs.Demand.{Limits, lone}
+use Rattle.morphology.specs.Check.{value, still, faultTest}
+use Rattle.morphology.specs.Demand.{Limits, lone, Differs}
+use Rattle.morphology.proofs.Integers.{sub-moves}
 use Rattle.morphology.proofs.Truth.{and-intro, and-parts, decided}
 use Rattle.morphology.proofs.Places.{same-place, Moved, Walk, HasAt, SumAt, BetweenAt, PathAt, FaultAt, missed-at, extra-at}
 use Rattle.morphology.proofs.Reach.{dilation, le-dilate}
@@ -23,16 +24,10 @@ use Rattle.morphology.proofs.Walks.{carry, weaken, Near, near-end, near-all}
 use Rattle.morphology.proofs.Tests.{fault-sound, fault-complete}
 use Rattle.demands.proofs.Agree.{has-moved, offset, Close, close-moved, step-close, walk-close, to-chain, to-element}
 
--- in some frame some lone echo, at the point a, is dilated differently at a + e by the element and by the chain; e as a place
-pub record DiffersAt (top : ℕ) (E : Shape) (Bs : List Shape) (e : Place) : Type 0 where
-  pub frame : Frame
-  pub limits : Limits frame
-  pub echo : Place
-  pub point : Place
-  pub echo-in : In frame echo
-  pub point-in : In frame point
-  pub moved : Moved e echo point
-  pub differ : ¬ (dilateAll frame Bs (lone top echo) (point .x) (point .y) ≡ dilate frame E (lone top echo) (point .x) (point .y))
+-- a point moved by an offset
+pub moved-to : (e p q : Place) → Moved e p q → Plus p (value e) q
+moved-to e p q m =
+    record { across = sub-moves (p .x) (q .x) (e .x) 128 .1 (m .across); down = sub-moves (p .y) (q .y) (e .y) 128 .1 (m .down) }
 
 -- ---- a lone echo
 
@@ -101,6 +96,13 @@ module _ (E : Shape) (Bs : List Shape) (C : Chained E Bs) (top : ℕ) where
       (λ n. absurd (d (far-alike F a q ia iq (λ c. n (le→leb (a .y) (q .y + 128) (c .1)))))) (decided (leb (a .y) (q .y + 128))))
       (λ n. absurd (d (far-alike F a q ia iq (λ c. n (le→leb (a .x) (q .x + 128) (c .0)))))) (decided (leb (a .x) (q .x + 128)))
 
+  -- and that place is at fault
+  pub difference-fault : (F : Frame) (a q : Place) → In F a → In F q
+      → ¬ (dilateAll F Bs (lone top a) (q .x) (q .y) ≡ dilate F E (lone top a) (q .x) (q .y)) → FaultAt E Bs (offset a q)
+  difference-fault F a q ia iq d =
+      ⊎-elim (fault-sound E Bs (offset a q))
+      (λ nf. absurd (d (alike F (offset a q) a q ia iq (differing-moved F a q ia iq d) (λ f. nf (fault-complete E Bs (offset a q) f))))) (decided (faultTest E Bs (offset a q)))
+
   module _ (e : Place) (some : 1 ≤ top) where
     -- the element has e and no path leads to it: the echo stands in one corner of the frame that just holds 0 and e, and e in another
     tight : Frame
@@ -145,7 +147,7 @@ module _ (E : Shape) (Bs : List Shape) (C : Chained E Bs) (top : ℕ) where
         ))
         Bs start end still e (record { across = omega arith; down = omega arith }) (record { across = omega arith; down = omega arith }) w
 
-    missed-differs : HasAt E e → ¬ PathAt Bs e → DiffersAt top E Bs e
+    missed-differs : HasAt E e → ¬ PathAt Bs e → Differs top E Bs (value e)
     missed-differs h np =
         record {
           frame = tight;
@@ -154,7 +156,7 @@ module _ (E : Shape) (Bs : List Shape) (C : Chained E Bs) (top : ℕ) where
           point = end;
           echo-in = start-in;
           point-in = end-in;
-          moved = start-end;
+          moved = moved-to e start end start-end;
           differ = λ same.
               let by-chain = dils-le tight Bs (lone top start) end 0 end-in (λ p ip w. lone-bound top 0 start p (λ k.
               absurd (np (tight-path (subst (λ (z : Place). Walk (In tight) Bs z end) (sym k) w))))) in
@@ -167,7 +169,7 @@ module _ (E : Shape) (Bs : List Shape) (C : Chained E Bs) (top : ℕ) where
     wide : Frame
     wide = record { pings = 256; bins = 256 }
 
-    extra-differs : ¬ HasAt E e → SumAt Bs e → DiffersAt top E Bs e
+    extra-differs : ¬ HasAt E e → SumAt Bs e → Differs top E Bs (value e)
     unfolding wide
     extra-differs nh s =
         let l = C .few-links in
@@ -183,7 +185,7 @@ module _ (E : Shape) (Bs : List Shape) (C : Chained E Bs) (top : ℕ) where
           point = e;
           echo-in = there;
           point-in = inside;
-          moved = record { across = omega arith; down = omega arith };
+          moved = moved-to e still e (record { across = omega arith; down = omega arith });
           differ = λ same.
               let by-element = dilation flat wide E (lone top still) e 0 .1 (λ p ip z. lone-bound top 0 still p (λ k.
               absurd (nh (subst (λ (y : Place). Step E y e) (sym k) z)))) in
@@ -192,11 +194,6 @@ module _ (E : Shape) (Bs : List Shape) (C : Chained E Bs) (top : ℕ) where
               omega arith;
         }
 
-    pub fault-differs-at : FaultAt E Bs e → DiffersAt top E Bs e
+    pub fault-differs-at : FaultAt E Bs e → Differs top E Bs (value e)
     fault-differs-at (missed-at h np) = missed-differs h np
     fault-differs-at (extra-at nh s) = extra-differs nh s
-
-    pub differs-fault-at : DiffersAt top E Bs e → FaultAt E Bs e
-    differs-fault-at d =
-        ⊎-elim (fault-sound E Bs e) (λ nf. absurd (d .differ (alike (d .frame) e (d .echo) (d .point) (d .echo-in) (d .point-in) (d .moved) (λ f. nf (fault-complete E Bs e f)))))
-        (decided (faultTest E Bs e))

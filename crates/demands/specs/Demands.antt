@@ -19,6 +19,12 @@ pub record Exactly (tests : List Test) (answer : Told) : Type 0 where
   pub refused : (n : ℕ) → 0 < n → (answer ≡ plain n) ↔ FirstHolds tests n
   pub done : (answer ≡ plain 0) ↔ NoneHolds tests
 
+-- of a call that may answer SPLIT: the same of the answer's number; dx and dy are 0 but for SPLIT
+pub record ExactlyNumbered (tests : List Test) (answer : Told) : Type 0 where
+  pub refused : (n : ℕ) → 0 < n → (answer .number ≡ n) ↔ FirstHolds tests n
+  pub done : (answer ≡ plain 0) ↔ NoneHolds tests
+  pub offset : (answer .number ≡ 7 → ⊥) → answer ≡ plain (answer .number)
+
 -- and no refusal changes a lent byte
 abbrev pub Kept : List Test → List ℕ → List ℕ → Type 0
 Kept tests before after = (n : ℕ) → FirstHolds tests n → after ≡ before

@@ -8,7 +8,7 @@ use borrow.Author.Tests.{eq-eqb, ne-eqb, lt-ltb, le-ltb, lt-leb, le-leb, leb-tru
 use lib.Dec.{leb, eqb, lit<}
 use Rattle.basics.proofs.Tests.{both}
 use lib.ListN.{length, getD}
-use Rattle.answer.proofs.Order.{none-of}
+use Rattle.answer.proofs.Order.{NoneOf, none-of}
 use Rattle.answer.specs.declared.Answer.the-variants.{Done, Size, Source, Pad, Room}
 use Rattle.answer.specs.Answer.{told, plain, isDone}
 use Rattle.answer.specs.Refuse.{refuse}
@@ -16,8 +16,8 @@ use Rattle.picture.specs.declared.Depth.{Depth}
 use Rattle.picture.specs.Frame.{sizedFrame, pictureBytes, Holds}
 use Rattle.picture.specs.Bytes.{paddingClear}
 use Rattle.picture.proofs.Sizes.{sized-tells}
-use Rattle.ech.specs.File.{headBytes, markOf, versionOf, kindOf, knownKind, formed}
-use Rattle.ech.specs.Calls.{pictureTests, Passed}
+use Rattle.ech.specs.File.{headBytes, markOf, versionOf, kindOf, pingsOf, binsOf, bodyOf, depthOf, knownKind, formed}
+use Rattle.ech.specs.Calls.{pictureTests, fileTests, readAnswer, Passed}
 
 -- a buffer that is long enough holds the picture too
 pub room-holds : (depth : Depth) (w h n : ℕ) → sizedFrame w h ≡ true → pictureBytes depth w h ≤ n → Holds depth n w h
@@ -55,16 +55,27 @@ module _ (depth : Depth) (w h : ℕ) (s : List ℕ) (room before : ℕ) where
         all-pass l = simp (sized, eq-eqb _ _ whole, clear, le-ltb _ _ l)
 
 -- what follows where every test of a picture's bytes is passed
-pub all-passed : (depth : Depth) (w h : ℕ) (s : List ℕ) (room before : ℕ) → isDone (refuse (pictureTests depth w h s room before) (plain 0)) ≡ true
-    → Passed depth w h s room before
-all-passed depth w h s room before e =
-    let p = none-of (pictureTests depth w h s room before) (lit< tt, (lit< tt, (lit< tt, (lit< tt, tt)))) e in
+passed-of : (depth : Depth) (w h : ℕ) (s : List ℕ) (room before : ℕ) → NoneOf (pictureTests depth w h s room before) → Passed depth w h s room before
+passed-of depth w h s room before p =
     record {
       sized = not-false _ (p .0);
       whole = eqb-true _ _ (not-false _ (p .1 .0));
       clear = not-false _ (p .1 .1 .0);
       roomy = ltb-false _ _ (p .1 .1 .1 .0);
     }
+
+pub all-passed : (depth : Depth) (w h : ℕ) (s : List ℕ) (room before : ℕ) → isDone (refuse (pictureTests depth w h s room before) (plain 0)) ≡ true
+    → Passed depth w h s room before
+all-passed depth w h s room before e =
+    passed-of depth w h s room before (none-of (pictureTests depth w h s room before) (lit< tt, (lit< tt, (lit< tt, (lit< tt, tt)))) e)
+
+-- and of a file
+pub file-passed : (f : List ℕ) (room : ℕ) → isDone (readAnswer f room) ≡ true
+    → (formed f ≡ true) × Passed (depthOf (kindOf f)) (pingsOf f) (binsOf f) (bodyOf f) room 0
+unfolding readAnswer
+file-passed f room e =
+    let p = none-of (fileTests f room) (lit< tt, (lit< tt, (lit< tt, (lit< tt, (lit< tt, tt))))) e in
+    (not-false _ (p .0), passed-of (depthOf (kindOf f)) (pingsOf f) (binsOf f) (bodyOf f) room 0 (p .1))
 
 -- ---- the tests of a file's first bytes
 module _ (f : List ℕ) where

@@ -21,7 +21,7 @@ use Rattle.picture.proofs.Sizes.{sized-tells}
 use Rattle.picture.proofs.Back.{bytes-long, bytes-clear, faced-small, faced-twice}
 use Rattle.ech.specs.File.{headBytes, markOf, versionOf, knownKind, kindOf, pingsOf, binsOf, bodyOf, depthOf, faceOf, formed, headOf, fileOf}
 use Rattle.ech.specs.Calls.{pictureTests, Passed, readAnswer, readTarget, writeAnswer, writeTarget}
-use Rattle.ech.proofs.Judging.{formed-long}
+use Rattle.ech.proofs.Judging.{file-passed, formed-long}
 use Rattle.ech.proofs.Writing.{head-long}
 
 -- every element of a list is a byte
@@ -55,9 +55,9 @@ module _ (kind w h : ℕ) (known : knownKind kind ≡ true) (rest : List ℕ) wh
   file-body = drop-at (headOf kind w h) rest headBytes (head-long kind w h)
 
 -- ---- a read of a file that is formed and passes
-read-passed : (f u : List ℕ) (kind w h : ℕ) (body : List ℕ) → formed f ≡ true → kindOf f ≡ kind → pingsOf f ≡ w → binsOf f ≡ h → bodyOf f ≡ body
+pub read-passed : (f u : List ℕ) (kind w h : ℕ) (body : List ℕ) → formed f ≡ true → kindOf f ≡ kind → pingsOf f ≡ w → binsOf f ≡ h → bodyOf f ≡ body
     → Passed (depthOf kind) w h body (length u) 0
-    → (isDone (readAnswer f u) ≡ true) × (readTarget f u ≡ written (depthOf kind) (faced (depthOf kind) (faceOf kind) body w) w h u)
+    → (isDone (readAnswer f (length u)) ≡ true) × (readTarget f u ≡ written (depthOf kind) (faced (depthOf kind) (faceOf kind) body w) w h u)
 unfolding readAnswer readTarget
 read-passed f u kind w h body ef ek ew eh eb p = (done, ap (λ b. cond b (picture (kindOf f) (pingsOf f) (binsOf f) (bodyOf f)) u) done ∙ same)
   where
@@ -77,7 +77,7 @@ read-passed f u kind w h body ef ek ew eh eb p = (done, ap (λ b. cond b (pictur
 
 -- ---- written, then read: the file's own bytes read into any buffer with room give the picture's bytes, its kind and its size
 pub record SamePicture (kind w h : ℕ) (s f u : List ℕ) : Type 0 where
-  pub done : isDone (readAnswer f u) ≡ true
+  pub done : isDone (readAnswer f (length u)) ≡ true
   pub kind-same : kindOf f ≡ kind
   pub pings-same : pingsOf f ≡ w
   pub bins-same : binsOf f ≡ h
@@ -155,18 +155,17 @@ pub record Accepted (f : List ℕ) : Type 0 where
   pub whole : length (bodyOf f) ≡ pictureBytes (depthOf (kindOf f)) (pingsOf f) (binsOf f)
   pub clear : paddingClear (depthOf (kindOf f)) (bodyOf f) (pingsOf f) (binsOf f) ≡ true
 
-accepted : (f t : List ℕ) → isDone (readAnswer f t) ≡ true → Accepted f
-unfolding readAnswer formed
-accepted f t e =
-    let p = none-of ((not (formed f), 9) ∷ pictureTests (depthOf (kindOf f)) (pingsOf f) (binsOf f) (bodyOf f) (length t) 0) (lit< tt, (lit< tt, (lit< tt, (lit< tt, (lit< tt, tt))))) e in
-    let good : formed f ≡ true = not-false _ (p .0) in
+pub accepted : (f : List ℕ) (room : ℕ) → isDone (readAnswer f room) ≡ true → Accepted f
+unfolding formed
+accepted f room e =
+    let p = file-passed f room e in
     record {
-      is-formed = good;
-      known = both (leb headBytes (length f) && markOf f && eqb (versionOf f) 1) (knownKind (kindOf f)) good .1;
-      long = formed-long f good;
-      sized = not-false _ (p .1 .0);
-      whole = eqb-true _ _ (not-false _ (p .1 .1 .0));
-      clear = not-false _ (p .1 .1 .1 .0);
+      is-formed = p .0;
+      known = both (leb headBytes (length f) && markOf f && eqb (versionOf f) 1) (knownKind (kindOf f)) (p .0) .1;
+      long = formed-long f (p .0);
+      sized = p .1 .sized;
+      whole = p .1 .whole;
+      clear = p .1 .clear;
     }
 
 module _ (f : List ℕ) (bytes : Bytes f) (ok : Accepted f) where
@@ -177,7 +176,7 @@ module _ (f : List ℕ) (bytes : Bytes f) (ok : Accepted f) where
   body-bytes : Bytes (bodyOf f)
   body-bytes i = subst (λ k. k < 256) (sym (getD-drop headBytes f i 0)) (bytes (headBytes + i))
 
-  picture-read : (t : List ℕ) → isDone (readAnswer f t) ≡ true → take (pictureBytes (depthOf (kindOf f)) (pingsOf f) (binsOf f)) (readTarget f t) ≡ pictureIn
+  picture-read : (t : List ℕ) → isDone (readAnswer f (length t)) ≡ true → take (pictureBytes (depthOf (kindOf f)) (pingsOf f) (binsOf f)) (readTarget f t) ≡ pictureIn
   unfolding readTarget written pictureIn
   picture-read t e =
       ap (λ b. take (pictureBytes (depthOf (kindOf f)) (pingsOf f) (binsOf f))
@@ -217,8 +216,8 @@ module _ (f : List ℕ) (bytes : Bytes f) (ok : Accepted f) where
       long-is : (a b n : ℕ) → b ≡ a - 10 → b ≡ n → 10 ≤ a → 10 + n ≡ a
       long-is a b n e q l = omega arith
 
-pub read-then-written : (f t t' : List ℕ) → Bytes f → isDone (readAnswer f t) ≡ true → length f ≤ length t'
+pub read-then-written : (f t t' : List ℕ) → Bytes f → isDone (readAnswer f (length t)) ≡ true → length f ≤ length t'
     → SameBytes f (take (pictureBytes (depthOf (kindOf f)) (pingsOf f) (binsOf f)) (readTarget f t)) t'
 read-then-written f t t' bytes e room =
-    let ok = accepted f t e in
+    let ok = accepted f (length t) e in
     subst (λ (p : List ℕ). SameBytes f p t') (sym (picture-read f bytes ok t e)) (written-back f bytes ok t' room)

@@ -11,7 +11,7 @@ use Rattle.answer.specs.Answer.{told, plain, isDone}
 use Rattle.answer.specs.Refuse.{Test, refuse}
 use Rattle.picture.specs.declared.Depth.{Depth}
 use Rattle.picture.specs.Frame.{sizedFrame, pictureBytes}
-use Rattle.picture.specs.Bytes.{written, faced, paddingClear}
+use Rattle.picture.specs.Bytes.{Picture, written, faced, paddingClear}
 use Rattle.ech.specs.declared.Header.{Header}
 use Rattle.ech.specs.File.{headBytes, knownKind, depthOf, faceOf, formed, kindOf, pingsOf, binsOf, bodyOf, fileOf}
 
@@ -25,14 +25,18 @@ pictureTests depth w h s room before =
     ∷ []
 
 -- a file that is read is met as 9, 1, 2, 3, 8, its body being the source
-unfoldable pub readAnswer : List ℕ → List ℕ → Told
-readAnswer f t =
-    refuse ((not (formed f), 9) ∷ pictureTests (depthOf (kindOf f)) (pingsOf f) (binsOf f) (bodyOf f) (length t) 0) (plain 0)
+abbrev pub fileTests : List ℕ → ℕ → List Test
+fileTests f room = (not (formed f), 9) ∷ pictureTests (depthOf (kindOf f)) (pingsOf f) (binsOf f) (bodyOf f) room 0
 
--- in memory kind 3 is the ordinary picture
+unfoldable pub readAnswer : List ℕ → ℕ → Told
+readAnswer f room = refuse (fileTests f room) (plain 0)
+
+-- the picture that a file holds: in memory kind 3 is the ordinary picture
+abbrev pub pictureOf : List ℕ → Picture
+pictureOf f = faced (depthOf (kindOf f)) (faceOf (kindOf f)) (bodyOf f) (pingsOf f)
+
 unfoldable pub readTarget : List ℕ → List ℕ → List ℕ
-readTarget f t =
-    cond (isDone (readAnswer f t)) (written (depthOf (kindOf f)) (faced (depthOf (kindOf f)) (faceOf (kindOf f)) (bodyOf f) (pingsOf f)) (pingsOf f) (binsOf f) t) t
+readTarget f t = cond (isDone (readAnswer f (length t))) (written (depthOf (kindOf f)) (pictureOf f) (pingsOf f) (binsOf f) t) t
 
 -- what a read gives back: the answer, and kind, W and H, or 0 for each where it is refused
 pub record GivenBack (answer-told : Told) (kind-read pings-read bins-read : ℕ) (r : Header) : Type 0 where
@@ -45,11 +49,8 @@ abbrev pub refusedAs : Answer → Header
 refusedAs a = record { answer = a; kind = 0; w = 0; h = 0 }
 
 -- the same of the body s alone, once the first ten bytes are known to be right
-unfoldable pub bodyAnswer : ℕ → ℕ → ℕ → List ℕ → List ℕ → Told
-bodyAnswer kind w h s t = refuse (pictureTests (depthOf kind) w h s (length t) 0) (plain 0)
-
-unfoldable pub bodyTarget : ℕ → ℕ → ℕ → List ℕ → List ℕ → List ℕ
-bodyTarget kind w h s t = cond (isDone (bodyAnswer kind w h s t)) (written (depthOf kind) (faced (depthOf kind) (faceOf kind) s w) w h t) t
+unfoldable pub bodyAnswer : ℕ → ℕ → ℕ → List ℕ → ℕ → Told
+bodyAnswer kind w h s room = refuse (pictureTests (depthOf kind) w h s room 0) (plain 0)
 
 -- the writer meets 9 for a kind it does not know, then 1, 2, 3, 8
 unfoldable pub writeAnswer : ℕ → ℕ → ℕ → List ℕ → List ℕ → Told

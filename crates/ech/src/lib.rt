@@ -11,7 +11,7 @@ ghost use Rattle.answer.specs.Refuse.{refuse};
 ghost use mathlib.Core.Bool.{true};
 ghost use Rattle.picture.specs.Frame.{mostPings, mostBins, pictureBytes};
 ghost use Rattle.ech.specs.File.{headBytes, fileOf, twoBytes, knownKind, depthOf, faceOf, formed, headOf, kindOf, pingsOf, binsOf};
-ghost use Rattle.ech.specs.Calls.{pictureTests, GivenBack, refusedAs, bodyAnswer, bodyTarget, readAnswer, readTarget, Passed, writeAnswer, writeTarget};
+ghost use Rattle.ech.specs.Calls.{pictureTests, GivenBack, refusedAs, bodyAnswer, readAnswer, readTarget, Passed, writeAnswer, writeTarget};
 
 // The bytes before the body.
 const HEAD: usize = 10;
@@ -46,7 +46,8 @@ fn is_known(kind: usize) -> bool
     kind <= 3
 }
 
-fn depth_of(kind: usize) -> Depth
+// A picture of kind 2 is 8-bit, of any other one-bit.
+pub fn depth_of(kind: usize) -> Depth
     ensures { λ r. ⌜ r ≡ depthOf kind ⌝ }
 {
     if kind == 2 {
@@ -118,16 +119,12 @@ fn refused(a: Answer) -> Header
     }
 }
 
-// The body of a file of a known kind into the target.
-fn read_body(kind: usize, w: usize, h: usize, body: &[u8], target: &mut [u8]) -> Header
-    ensures { λ r. ⌜ GivenBack (bodyAnswer kind w h (now (body .entry)) (now (target .entry))) kind w h r ⌝ }
-    ensures { λ _. ⌜ now (target .exit) ≡ bodyTarget kind w h (now (body .entry)) (now (target .entry)) ⌝ }
+// What a read of a body answers, for a file of a known kind and a target of `room` bytes.
+fn judge_body(kind: usize, w: usize, h: usize, body: &[u8], room: usize) -> Header
+    ensures { λ r. ⌜ GivenBack (bodyAnswer kind w h (now (body .entry)) room) kind w h r ⌝ }
 {
-    let depth = depth_of(kind);
-    let face = face_of(kind);
-    let a = judged(depth, w, h, body, target.len(), 0);
+    let a = judged(depth_of(kind), w, h, body, room, 0);
     if answer::is_done(a) {
-        picture::copy_picture(depth, face, body, target, w, h);
         return Header {
             answer: a,
             kind,
@@ -138,18 +135,33 @@ fn read_body(kind: usize, w: usize, h: usize, body: &[u8], target: &mut [u8]) ->
     refused(a)
 }
 
-// Reads a file's picture into the target; a refusal gives 0 for kind, W and H.
-pub fn read_ech(file: &[u8], target: &mut [u8]) -> Header
-    ensures { λ r. ⌜ GivenBack (readAnswer (now (file .entry)) (now (target .entry))) (kindOf (now (file .entry))) (pingsOf (now (file .entry))) (binsOf (now (file .entry))) r ⌝ }
-    ensures { λ _. ⌜ now (target .exit) ≡ readTarget (now (file .entry)) (now (target .entry)) ⌝ }
+// What a read of the file answers, for a target of `room` bytes: nothing is written.
+pub fn judge_ech(file: &[u8], room: usize) -> Header
+    ensures { λ r. ⌜ GivenBack (readAnswer (now (file .entry)) room) (kindOf (now (file .entry))) (pingsOf (now (file .entry))) (binsOf (now (file .entry))) r ⌝ }
 {
     if is_formed(file) {
         let kind = size(file[5]);
         let w = two(file[6], file[7]);
         let h = two(file[8], file[9]);
-        return read_body(kind, w, h, &file[HEAD..], target);
+        return judge_body(kind, w, h, &file[HEAD..], room);
     }
     refused(Answer::Form)
+}
+
+// Reads a file's picture into the target; a refusal gives 0 for kind, W and H.
+pub fn read_ech(file: &[u8], target: &mut [u8]) -> Header
+    ensures { λ r. ⌜ GivenBack (readAnswer (now (file .entry)) (length (now (target .entry)))) (kindOf (now (file .entry))) (pingsOf (now (file .entry))) (binsOf (now (file .entry))) r ⌝ }
+    ensures { λ _. ⌜ now (target .exit) ≡ readTarget (now (file .entry)) (now (target .entry)) ⌝ }
+{
+    let head = judge_ech(file, target.len());
+    let a = head.answer;
+    if answer::is_done(a) {
+        let depth = depth_of(head.kind);
+        let face = face_of(head.kind);
+        picture::copy_picture(depth, face, &file[HEAD..], target, head.w, head.h);
+        return head;
+    }
+    head
 }
 
 // The ten bytes before the body: the mark, version 1, the kind, W and H, low bytes first.

@@ -9,8 +9,6 @@ use Rattle.flat.proofs.open.Kinds as open-kinds
 use Rattle.flat.proofs.open.Reads as opened
 use Rattle.flat.proofs.close.Kinds as close-kinds
 use Rattle.flat.proofs.close.Reads as close
-use Rattle.flat.proofs.hit_or_miss.Kinds as hit-or-miss-kinds
-use Rattle.flat.proofs.hit_or_miss.Reads as hit-or-miss
 
 pub erode-settled : Settles 3 erode-kinds.ps erode-kinds.r erode.Learnt
 erode-settled κs a x y s t p q = same-answer x y _ (p .0) (q .0)
@@ -41,9 +39,3 @@ close-settled-target κs a x y s t p q = settled (p .1 .0) (q .1 .0)
 
 pub close-settled-scratch : SettlesBytes 4 close-kinds.ps close-kinds.r close.Learnt (λ κs e. e .1 .1 .1 .1 .1 .1 .0 .now)
 close-settled-scratch κs a x y s t p q = settled (p .1 .1) (q .1 .1)
-
-pub hit-or-miss-settled : Settles 4 hit-or-miss-kinds.ps hit-or-miss-kinds.r hit-or-miss.Learnt
-hit-or-miss-settled κs a x y s t p q = same-answer x y _ (p .0) (q .0)
-
-pub hit-or-miss-settled-target : SettlesBytes 4 hit-or-miss-kinds.ps hit-or-miss-kinds.r hit-or-miss.Learnt (λ κs e. e .1 .1 .1 .1 .1 .0 .now)
-hit-or-miss-settled-target κs a x y s t p q = settled (p .1) (q .1)

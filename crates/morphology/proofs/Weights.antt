@@ -1,6 +1,6 @@
 -- The weighted rule as document 01 has it: what a cell does with a value, and what follows.
 use Prim.Native.Nat.{ℕ, _+_, _-_, _≤_, _<_, min}
-use mathlib.Core.Path.{_≡_, refl}
+use mathlib.Core.Path.{_≡_, refl, _∙_}
 use mathlib.Core.Bool.{Bool, true, false}
 use mathlib.Core.Logic.{_↔_, _⊎_, inl, inr, ⊎-elim}
 use native.Mathlib.Omega.{arith}
@@ -10,12 +10,12 @@ use Rattle.picture.specs.Frame.{Frame}
 use Rattle.picture.specs.Bytes.{Picture}
 use Rattle.element.specs.Shape.{Shape, heightOf}
 use Rattle.morphology.specs.Step.{Place, Step}
-use Rattle.morphology.specs.Operations.{flat, erodeBy, dilateBy}
-use Rattle.morphology.specs.Weighted.{lower, raise}
+use Rattle.morphology.specs.Operations.{flat, erodeBy, dilateBy, opening, closing}
+use Rattle.morphology.specs.Weighted.{lower, raise, openWeighted, closeWeighted}
 use Rattle.morphology.specs.Order.{Bounded, Rising, Holding, Mirrored}
 use Rattle.morphology.proofs.Integers.{pos-is}
 use Rattle.morphology.proofs.Reach.{heightAt}
-use Rattle.morphology.proofs.Order.{erode-same, dilate-same}
+use Rattle.morphology.proofs.Order.{erode-same, dilate-same, erode-alike, dilate-alike, erode-bounded}
 
 -- ---- one cell
 
@@ -68,11 +68,11 @@ louder = refl
 
 -- ---- with all heights 0, what the flat operations give
 
-lower-zero : (v : ℕ) → lower 0 v ≡ v
+pub lower-zero : (v : ℕ) → lower 0 v ≡ v
 unfolding lower
 lower-zero v = omega arith
 
-raise-zero : (v : ℕ) → v ≤ 255 → raise 0 v ≡ v
+pub raise-zero : (v : ℕ) → v ≤ 255 → raise 0 v ≡ v
 unfolding raise
 raise-zero v h = omega arith
 
@@ -85,3 +85,15 @@ module _ (F : Frame) (B : Shape) (zero : (c r : ℕ) → B .height c r ≡ 0) (A
 
   pub dilate-unweighted : Bounded 255 F A → dilateBy raise F B A (p .x) (p .y) ≡ dilateBy flat F B A (p .x) (p .y)
   dilate-unweighted b = dilate-same raise flat F B A A p (λ q i s. rw (level s) (raise-zero _ (b q i)))
+
+-- and so opening and closing
+module _ (F : Frame) (B : Shape) (zero : (c r : ℕ) → B .height c r ≡ 0) (A : Picture) (p : Place) where
+  pub open-unweighted : openWeighted F B A (p .x) (p .y) ≡ opening 255 F B A (p .x) (p .y)
+  open-unweighted =
+      dilate-unweighted F B zero (erodeBy lower 255 F B A) p (erode-bounded lower 255 F B A)
+      ∙ dilate-alike flat F B (erodeBy lower 255 F B A) (erodeBy flat 255 F B A) (λ q i. erode-unweighted F B zero A q 255) p
+
+  pub close-unweighted : Bounded 255 F A → closeWeighted F B A (p .x) (p .y) ≡ closing 255 F B A (p .x) (p .y)
+  close-unweighted b =
+      erode-unweighted F B zero (dilateBy raise F B A) p 255
+      ∙ erode-alike flat F B (dilateBy raise F B A) (dilateBy flat F B A) (λ q i. dilate-unweighted F B zero A q b) p 255

@@ -9,16 +9,13 @@ use lib.ListN.{getD}
 use lib.Signed.{leZ}
 use Rattle.basics.specs.Bits.{bit, on}
 use Rattle.basics.specs.Tests.{all}
-use Rattle.picture.specs.Frame.{Frame}
+use Rattle.picture.specs.Frame.{Frame, frame}
 use Rattle.picture.specs.Bytes.{Picture}
 use Rattle.element.specs.Shape.{Shape}
 use Rattle.morphology.specs.Operations.{erode, dilate, opening, closing, hitMiss}
 use Rattle.morphology.specs.Check.{Verdict, Taken, Split, checkOf}
 
 -- ---- frames, pictures, elements and offsets as the rows write them
-
-abbrev pub frame : ℕ → ℕ → Frame
-frame w h = record { pings = w; bins = h }
 
 -- the digits of n, the highest first
 abbrev pub bits : Frame → ℕ → Picture

@@ -93,7 +93,7 @@ pub bytes-long : (depth : Depth) (A : Picture) (w h : ℕ) → length (bytesOf d
 unfolding bytesOf
 bytes-long depth A w h = length-joined (λ y. rowOf depth (λ x. A x y) w) (rowBytes depth w) (λ y. row-length depth (λ x. A x y) w) h
 
-alone : (depth : Depth) (A : Picture) (w h : ℕ) → written depth A w h [] ≡ bytesOf depth A w h
+pub alone : (depth : Depth) (A : Picture) (w h : ℕ) → written depth A w h [] ≡ bytesOf depth A w h
 unfolding written
 alone depth A w h = ap (λ l. bytesOf depth A w h ++ l) (drop-nil (pictureBytes depth w h)) ∙ append-nil (bytesOf depth A w h)
 

@@ -17,6 +17,9 @@ pub record Frame : Type 0 where
   pub pings : ℕ
   pub bins : ℕ
 
+abbrev pub frame : ℕ → ℕ → Frame
+frame w h = record { pings = w; bins = h }
+
 -- W pings, 1 to 1,024, and H range bins, 1 to 256
 unfoldable pub sizedFrame : ℕ → ℕ → Bool
 sizedFrame w h = (leb 1 w && leb w mostPings) && (leb 1 h && leb h mostBins)

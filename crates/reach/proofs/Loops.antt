@@ -6,7 +6,7 @@ use mathlib.Core.List.{List, [], _∷_, _++_, append-nil}
 use native.Mathlib.Omega.{arith}
 use native.Mathlib.Nat.{zero-mul, one-mul, mod-eq-of-lt, not-suc-le-zero, le-of-suc-le-suc}
 use native.Mathlib.Numerals.{add-one}
-use lib.ListN.{length, getD, set, take, drop, replicate, drop-of-length-le}
+use lib.ListN.{length, getD, take, drop, replicate, drop-of-length-le}
 use lib.Seq.{drop-cons, getD-take, length-take-le}
 use lib.Pow.{pow-lt, pow-pos}
 use lib.Bits.{bitOr, bitAnd, or-zero-r}
@@ -15,7 +15,6 @@ use borrow.Author.Tests.{le-leb, lt-leb, lt-ltb, le-ltb}
 use Rattle.basics.proofs.Flags.{low-on}
 use Rattle.reach.specs.declared.Offset.{Offset}
 use Rattle.basics.specs.Lists.{firsts}
-use Rattle.basics.proofs.Lists.{fill-more}
 use Rattle.element.specs.declared.Element.{Element}
 use Rattle.element.specs.Descriptor.{mostCells}
 use Rattle.element.specs.Record.{cellOn, shapeOf}
@@ -78,10 +77,6 @@ unfolding maskOf
 mask-is left right h = ap (λ n. (n - 1) / 2 ^ left * 2 ^ left % 2 ^ 64) (shift-one right h)
 
 -- ---- the rows of a board
-pub fill-store : (f : ℕ → ℕ) (n m z : ℕ) (l : List ℕ) (v : ℕ) → n < m → l ≡ firsts f n ++ replicate (m - n) z → v ≡ f n
-    → set l n v ≡ firsts f (n + 1) ++ replicate (m - (n + 1)) z
-fill-store f n m z l v h e e' = ap₂ (λ t x. set t n x) e e' ∙ fill-more f m z n h
-
 -- a row above the kept ones, one below them, and one of them
 module _ (board cells : List ℕ) (w h m : ℕ) (cut : Cut) (y : ℕ) where
   pub above-kept : y < cut .top → 0 ≡ keptOf board cells w h m cut y

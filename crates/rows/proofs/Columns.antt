@@ -10,7 +10,7 @@ use Rattle.basics.proofs.Lists.{getD-firsts, firsts-same}
 use Rattle.picture.specs.Bytes.{Picture}
 use Rattle.element.specs.Shape.{Shape}
 use Rattle.morphology.specs.Operations.{Change, moved, within}
-use Rattle.morphology.specs.Worked.{frame}
+use Rattle.picture.specs.Frame.{frame}
 use Rattle.rows.specs.Fold.{plusBy, minusBy, startBy, sweptBy, foldedAt}
 use Rattle.rows.specs.Row.{foldedRow}
 use Rattle.rows.proofs.Nest.{rowsAt, rows-at-none, rows-at-more, rows-at-all}

@@ -1,8 +1,9 @@
 -- The cells of one row of an element, folded one after another into a row; and folds that agree.
 use Prim.Native.Nat.{ℕ, zero, suc, _+_, _<_}
-use mathlib.Core.Path.{_≡_, refl, ap, _∙_}
+use mathlib.Core.Path.{_≡_, refl, ap, ap₂, _∙_}
 use mathlib.Core.Bool.{Bool, true, false, cond, _&&_}
 use mathlib.Core.List.{List}
+use native.Mathlib.Omega.{arith}
 use native.Mathlib.Numerals.{add-one}
 use lib.Dec.{T, ltb, leb, ltb→lt}
 use lib.ListN.{length, getD}
@@ -34,28 +35,29 @@ module _ (grows : Bool) (change : Change) (height : ℕ → ℕ) (t s : List ℕ
   unfolding soFar
   cells-all n wide u e q = e ∙ simp q
 
--- ---- sources that agree in the row give the same
+-- ---- sources that agree in the row, and heights that agree in the element's, give the same
 cond-held : (b : Bool) (x y z : ℕ) → (T b → x ≡ y) → cond b x z ≡ cond b y z
 cond-held true x y z h = h tt
 cond-held false x y z h = refl
 
-foldIf-same : (join : ℕ → ℕ → ℕ) (a : ℕ) (p : ℕ → Bool) (f g : ℕ → ℕ) (n : ℕ) → ((i : ℕ) → T (p i) → f i ≡ g i) → foldIf join a p f n ≡ foldIf join a p g n
+foldIf-same : (join : ℕ → ℕ → ℕ) (a : ℕ) (p : ℕ → Bool) (f g : ℕ → ℕ) (n : ℕ) → ((i : ℕ) → i < n → T (p i) → f i ≡ g i) → foldIf join a p f n ≡ foldIf join a p g n
 unfolding foldIf
 foldIf-same join a p f g zero all = refl
 foldIf-same join a p f g (suc n) all =
-    let e = foldIf-same join a p f g n all in
-    ap (λ k. cond (p n) (join k (f n)) k) e ∙ cond-held (p n) _ _ _ (λ h. ap (join (foldIf join a p g n)) (all n h))
+    let e = foldIf-same join a p f g n (λ i l. all i (omega arith)) in
+    ap (λ k. cond (p n) (join k (f n)) k) e ∙ cond-held (p n) _ _ _ (λ h. ap (join (foldIf join a p g n)) (all n (omega arith) h))
 
-module _ (grows : Bool) (change : Change) (height : ℕ → ℕ) (w : ℕ) (has : ℕ → Bool) (wide o : ℕ) (f g : ℕ → ℕ) (all : (u : ℕ) → u < w → f u ≡ g u) where
-  pub folded-same : (v x : ℕ) → foldedAt grows change height f w has wide o v x ≡ foldedAt grows change height g w has wide o v x
+module _ (grows : Bool) (change : Change) (w : ℕ) (has : ℕ → Bool) (wide o : ℕ) (heights others f g : ℕ → ℕ)
+    (each : (c : ℕ) → c < wide → heights c ≡ others c) (all : (u : ℕ) → u < w → f u ≡ g u) where
+  pub folded-same : (v x : ℕ) → foldedAt grows change heights f w has wide o v x ≡ foldedAt grows change others g w has wide o v x
   unfolding foldedAt
-  folded-same v x = foldIf-same (joinBy grows) v _ _ _ wide (λ c h. ap (change (height c)) (all _ (inside c h)))
+  folded-same v x = foldIf-same (joinBy grows) v _ _ _ wide (λ c l h. ap₂ change (each c l) (all _ (inside c h)))
     where
       inside : (c : ℕ) → T (has c && within w x (plusBy grows o c) (minusBy grows o c)) → moved x (plusBy grows o c) (minusBy grows o c) < w
       inside c h =
           let i = and-parts (has c) (within w x (plusBy grows o c) (minusBy grows o c)) h .1 in
           ltb→lt _ w (and-parts (leb (minusBy grows o c) (x + plusBy grows o c)) (ltb (moved x (plusBy grows o c) (minusBy grows o c)) w) i .1)
 
-  pub folded-row-same : (t : List ℕ) → foldedRow grows change height t f w has wide o ≡ foldedRow grows change height t g w has wide o
+  pub folded-row-same : (t : List ℕ) → foldedRow grows change heights t f w has wide o ≡ foldedRow grows change others t g w has wide o
   unfolding foldedRow
   folded-row-same t = firsts-same _ _ w (λ x h. folded-same (getD t x 0) x)

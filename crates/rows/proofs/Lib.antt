@@ -4,6 +4,7 @@ pub mod Fold
 pub mod Nest
 pub mod Columns
 pub mod Source
+pub mod Weights
 pub mod Packed
 pub mod Swept
 pub mod Settled

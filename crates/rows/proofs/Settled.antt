@@ -8,5 +8,5 @@ use Rattle.rows.proofs.make_row.Reads as make-row
 pub task-of-settled : Settles 0 task-of-kinds.ps task-of-kinds.r task-of.Learnt
 task-of-settled κs a x y s t p q = settled p q
 
-pub make-row-settled : SettlesBytes 3 make-row-kinds.ps make-row-kinds.r make-row.Learnt (λ κs e. e .1 .0 .now)
+pub make-row-settled : SettlesBytes 4 make-row-kinds.ps make-row-kinds.r make-row.Learnt (λ κs e. e .1 .0 .now)
 make-row-settled κs a x y s t p q = settled p q

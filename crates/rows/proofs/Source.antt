@@ -16,8 +16,8 @@ use Rattle.picture.specs.declared.Depth.the-variants.{OneBit}
 use Rattle.picture.specs.Frame.{mostPings, rowBytes}
 use Rattle.picture.specs.Points.{valueAt, valueIn, byteAt, place}
 use Rattle.rows.specs.declared.Task.{Task}
-use Rattle.rows.specs.Row.{flatRow, columnsOf}
-use Rattle.rows.specs.Task.{bitsSeen, unpackedOf, seenRow, depthIf}
+use Rattle.rows.specs.Row.{weighedRow, columnsOf}
+use Rattle.rows.specs.Task.{bitsSeen, unpackedOf, seenRow, heightBy, depthIf}
 use Rattle.rows.proofs.Fold.{folded-row-same}
 
 pub value-bit : (s : List ℕ) (w x y v : ℕ) → v ≡ valueAt OneBit s w x y → v ≤ 1
@@ -33,19 +33,19 @@ pub length-unpacked : (over : Bool) (s : List ℕ) (w y : ℕ) (row : List ℕ) 
 length-unpacked over s w y row e = sym (length-firsts (bitsSeen over s w y) w) ∙ ap length (sym (take-unpacked over s w y) ∙ ap (take w) (sym e))
 
 -- what the row routine makes of either is what it makes of the points
-module _ (k : Task) (s t u : List ℕ) (w word wide o y : ℕ) where
-  pub from-bits : (from : List ℕ) → k .packed ≡ true → from ≡ unpackedOf (k .over) s w y → u ≡ flatRow (k .grows) t (columnsOf (take w from)) w word wide o
-      → u ≡ flatRow (k .grows) t (seenRow k s w y) w word wide o
-  unfolding flatRow seenRow bitsSeen
+module _ (k : Task) (s t u hs : List ℕ) (w word wide o y : ℕ) where
+  pub from-bits : (from : List ℕ) → k .packed ≡ true → from ≡ unpackedOf (k .over) s w y → u ≡ weighedRow (k .grows) (columnsOf (take 0 hs)) t (columnsOf (take w from)) w word wide o
+      → u ≡ weighedRow (k .grows) (heightBy k hs) t (seenRow k s w y) w word wide o
+  unfolding weighedRow seenRow bitsSeen heightBy
   from-bits from b e q =
-      q ∙ folded-row-same (k .grows) _ _ w _ wide o (columnsOf (take w from)) (seenRow k s w y)
+      q ∙ folded-row-same (k .grows) _ w _ wide o (columnsOf (take 0 hs)) (heightBy k hs) (columnsOf (take w from)) (seenRow k s w y) (λ c l. simp b)
       (λ x l. ap (λ l. getD l x 0) (ap (take w) e ∙ take-unpacked (k .over) s w y) ∙ getD-firsts (bitsSeen (k .over) s w y) w x l ∙ simp b) t
 
-  pub from-bytes : k .packed ≡ false → u ≡ flatRow (k .grows) t (columnsOf (midOf (y * w) (y * w + w - y * w) s)) w word wide o
-      → u ≡ flatRow (k .grows) t (seenRow k s w y) w word wide o
-  unfolding flatRow seenRow valueAt valueIn
+  pub from-bytes : k .packed ≡ false → u ≡ weighedRow (k .grows) (columnsOf hs) t (columnsOf (midOf (y * w) (y * w + w - y * w) s)) w word wide o
+      → u ≡ weighedRow (k .grows) (heightBy k hs) t (seenRow k s w y) w word wide o
+  unfolding weighedRow seenRow heightBy valueAt valueIn
   from-bytes b q =
-      q ∙ folded-row-same (k .grows) _ _ w _ wide o (columnsOf (midOf (y * w) (y * w + w - y * w) s)) (seenRow k s w y)
+      q ∙ folded-row-same (k .grows) _ w _ wide o (columnsOf hs) (heightBy k hs) (columnsOf (midOf (y * w) (y * w + w - y * w) s)) (seenRow k s w y) (λ c l. simp b)
       (λ x l. ap (λ i. getD (midOf (y * w) i s) x 0) (add-sub-cancel-left (y * w) w) ∙ get-mid (y * w) w s x l ∙ simp b) t
 
 -- the row lies in the source

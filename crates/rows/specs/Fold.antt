@@ -2,10 +2,12 @@
 -- takes the lesser and moves on by it.
 use Prim.Native.Nat.{ℕ, zero, suc, min, max}
 use mathlib.Core.Bool.{Bool, true, false, cond, _&&_}
+use lib.Dec.{eqb}
 use Rattle.picture.specs.Frame.{Frame}
 use Rattle.picture.specs.Bytes.{Picture}
 use Rattle.element.specs.Shape.{Shape}
 use Rattle.morphology.specs.Operations.{Change, moved, within, erodeBy, dilateBy}
+use Rattle.morphology.specs.Weighted.{lower, raise}
 
 abbrev pub joinBy : Bool → ℕ → ℕ → ℕ
 joinBy true = max
@@ -21,6 +23,14 @@ minusBy grows o c = cond grows c o
 -- what a fold starts from: 0, or the greatest value
 abbrev pub startBy : Bool → ℕ → ℕ
 startBy grows top = cond grows 0 top
+
+-- what a cell of height g makes of a value: dilation raises it, erosion lowers it, and at height 0 it stays, as a flat element's
+abbrev pub heldBy : Bool → Change
+heldBy true = raise
+heldBy false = lower
+
+unfoldable pub weighBy : Bool → Change
+weighBy grows g v = cond (eqb g 0) v (heldBy grows g v)
 
 -- dilation, or erosion
 abbrev pub sweptBy : Bool → Change → ℕ → Frame → Shape → Picture → Picture

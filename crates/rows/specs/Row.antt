@@ -8,8 +8,8 @@ use Rattle.basics.specs.Lists.{firsts}
 use Rattle.picture.specs.Frame.{mostPings}
 use Rattle.element.specs.Descriptor.{mostCells}
 use Rattle.element.specs.Record.{cellOn}
-use Rattle.morphology.specs.Operations.{Change, flat, moved, within}
-use Rattle.rows.specs.Fold.{joinBy, foldedAt}
+use Rattle.morphology.specs.Operations.{Change, moved, within}
+use Rattle.rows.specs.Fold.{joinBy, weighBy, foldedAt}
 
 -- the row t with one cell folded in, if it is set: each column x whose place x + (plus - minus) lies in the row is joined with what s has there
 unfoldable pub cellRow : Bool → Change → ℕ → Bool → List ℕ → List ℕ → ℕ → ℕ → ℕ → List ℕ
@@ -20,9 +20,9 @@ cellRow grows change g set t s w plus minus =
 unfoldable pub foldedRow : Bool → Change → (ℕ → ℕ) → List ℕ → (ℕ → ℕ) → ℕ → (ℕ → Bool) → ℕ → ℕ → List ℕ
 foldedRow grows change height t source w has wide o = firsts (λ x. foldedAt grows change height source w has wide o (getD t x 0) x) w
 
--- the same of a flat element's row word
-unfoldable pub flatRow : Bool → List ℕ → (ℕ → ℕ) → ℕ → ℕ → ℕ → ℕ → List ℕ
-flatRow grows t source w word wide o = foldedRow grows flat (λ c. 0) t source w (cellOn word) wide o
+-- the same of a row word and the heights beside it
+unfoldable pub weighedRow : Bool → (ℕ → ℕ) → List ℕ → (ℕ → ℕ) → ℕ → ℕ → ℕ → ℕ → List ℕ
+weighedRow grows heights t source w word wide o = foldedRow grows (weighBy grows) heights t source w (cellOn word) wide o
 
 -- the bytes of a row, by column
 abbrev pub columnsOf : List ℕ → ℕ → ℕ

@@ -13,12 +13,12 @@ ghost use Rattle.picture.specs.Frame.{mostPings, rowBytes, top};
 ghost use Rattle.picture.specs.Bytes.{rowByte, rowOf, turned};
 ghost use Rattle.element.specs.Descriptor.{mostCells};
 ghost use Rattle.element.specs.Record.{cellOn};
-ghost use Rattle.morphology.specs.Operations.{flat};
+ghost use Rattle.morphology.specs.Weighted.{lower, raise};
 ghost use Rattle.rows.specs.Zip.{zipIn};
-ghost use Rattle.rows.specs.Fold.{joinBy, plusBy, minusBy, startBy};
-ghost use Rattle.rows.specs.Row.{cellRow, flatRow, columnsOf, lowBits, RowFit};
+ghost use Rattle.rows.specs.Fold.{joinBy, plusBy, minusBy, startBy, heldBy, weighBy};
+ghost use Rattle.rows.specs.Row.{cellRow, weighedRow, columnsOf, lowBits, RowFit};
 ghost use Rattle.rows.specs.Added.{addedRow};
-ghost use Rattle.rows.specs.Task.{depthIf, faceIf, packedOf, growsOf, unpackedOf, seenRow, taskOf, sweptColumns, sweptRow, Ready};
+ghost use Rattle.rows.specs.Task.{depthIf, faceIf, packedOf, growsOf, unpackedOf, seenRow, heightBy, taskOf, sweptColumns, sweptRow, Ready};
 
 pub enum Way {
     Erode,
@@ -91,6 +91,64 @@ fn keep(grows: bool, acc: &mut [u8], by: &[u8])
     }
 }
 
+// A value with a height added, and with one taken away, held to 0..255: the only two functions that know the weighted rule.
+// A height is a byte: 0 to 127 are themselves, 129 to 255 stand for -127 to -1.
+fn raised(g: u8, v: u8) -> u8
+    ensures { λ r. ⌜ r ≡ raise g v ⌝ }
+{
+    if g < 128 {
+        if 255 - g < v { 255 } else { v + g }
+    } else {
+        let down = 255 - g + 1;
+        if v < down { 0 } else { v - down }
+    }
+}
+
+fn lowered(g: u8, v: u8) -> u8
+    ensures { λ r. ⌜ r ≡ lower g v ⌝ }
+{
+    if g < 128 {
+        if v < g { 0 } else { v - g }
+    } else {
+        let up = 255 - g + 1;
+        if 255 - up < v { 255 } else { v + up }
+    }
+}
+
+// What a cell of height g makes of a value.
+fn weighed(grows: bool, g: u8, v: u8) -> u8
+    ensures { λ r. ⌜ r ≡ heldBy grows g v ⌝ }
+{
+    if grows {
+        return raised(g, v);
+    }
+    lowered(g, v)
+}
+
+// As `keep`, each byte beside being weighed first.
+fn keep_weighed(grows: bool, g: u8, acc: &mut [u8], by: &[u8])
+    requires { ⌜ length (now by) ≤ length (now acc) ⌝ }
+    ensures { λ _. ⌜ now (acc .exit) ≡ zipIn (λ u v. joinBy grows u (heldBy grows g v)) (now (acc .entry)) (now (by .entry)) ⌝ }
+{
+    let mut i = 0;
+    while i < by.len() {
+        acc[i] = join(grows, acc[i], weighed(grows, g, by[i]));
+        i += 1;
+    }
+}
+
+// Each byte of acc joined with what a cell of height g makes of the one beside it; a flat element's cells have height 0.
+fn keep_by(grows: bool, g: u8, acc: &mut [u8], by: &[u8])
+    requires { ⌜ length (now by) ≤ length (now acc) ⌝ }
+    ensures { λ _. ⌜ now (acc .exit) ≡ zipIn (λ u v. joinBy grows u (weighBy grows g v)) (now (acc .entry)) (now (by .entry)) ⌝ }
+{
+    if g == 0 {
+        keep(grows, acc, by);
+        return;
+    }
+    keep_weighed(grows, g, acc, by);
+}
+
 // How far a lies past b, held to n.
 fn past(a: usize, b: usize, n: usize) -> usize
     ensures { λ r. ⌜ r ≡ min (a - b) n ⌝ }
@@ -109,9 +167,18 @@ fn chosen(first: bool, a: usize, b: usize) -> usize
 }
 
 // One cell of a row word, if it is set: the columns whose place lies in the row are one part of t, beside one part of s.
-fn fold_cell(grows: bool, t: &mut [u8], s: &[u8], w: usize, word: u32, cell: Ping, origin: Ping)
+fn fold_cell(
+    grows: bool,
+    t: &mut [u8],
+    s: &[u8],
+    w: usize,
+    word: u32,
+    cell: Ping,
+    origin: Ping,
+    g: u8,
+)
     requires { ⌜ (length (now t) ≡ w) × ((length (now s) ≡ w) × (cell .0 < mostCells)) ⌝ }
-    ensures { λ _. ⌜ now (t .exit) ≡ cellRow grows flat 0 (cellOn word (cell .0)) (now (t .entry)) (now (s .entry)) w (plusBy grows (origin .0) (cell .0)) (minusBy grows (origin .0) (cell .0)) ⌝ }
+    ensures { λ _. ⌜ now (t .exit) ≡ cellRow grows (weighBy grows) g (cellOn word (cell .0)) (now (t .entry)) (now (s .entry)) w (plusBy grows (origin .0) (cell .0)) (minusBy grows (origin .0) (cell .0)) ⌝ }
 {
     if element::cell(word, cell) {
         let c = cell.0 as usize;
@@ -122,19 +189,36 @@ fn fold_cell(grows: bool, t: &mut [u8], s: &[u8], w: usize, word: u32, cell: Pin
         let b = past(plus, minus, w);
         let te = w - b;
         let se = w - a;
-        keep(grows, &mut t[a..te], &s[b..se]);
+        keep_by(grows, g, &mut t[a..te], &s[b..se]);
         return;
     }
 }
 
+// The height of column c of a row of heights; where there are none it is 0.
+fn height_at(heights: &[u8], c: usize) -> u8
+    ensures { λ r. ⌜ r ≡ columnsOf (now (heights .entry)) c ⌝ }
+{
+    if c < heights.len() { heights[c] } else { 0 }
+}
+
 // One row of an element into a row of bytes: one pass over the row for each set cell of the word.
-fn fold_row(grows: bool, t: &mut [u8], s: &[u8], w: usize, word: u32, wide: usize, origin: Ping)
+fn fold_row(
+    grows: bool,
+    t: &mut [u8],
+    s: &[u8],
+    w: usize,
+    word: u32,
+    wide: usize,
+    origin: Ping,
+    heights: &[u8],
+)
     requires { ⌜ RowFit (length (now t)) (length (now s)) w wide (origin .0) ⌝ }
-    ensures { λ _. ⌜ now (t .exit) ≡ flatRow grows (now (t .entry)) (columnsOf (now (s .entry))) w word wide (origin .0) ⌝ }
+    ensures { λ _. ⌜ now (t .exit) ≡ weighedRow grows (columnsOf (now (heights .entry))) (now (t .entry)) (columnsOf (now (s .entry))) w word wide (origin .0) ⌝ }
 {
     let mut c = 0;
     while c < wide {
-        fold_cell(grows, t, s, w, word, Ping(c as u16), origin);
+        let g = height_at(heights, c);
+        fold_cell(grows, t, s, w, word, Ping(c as u16), origin, g);
         c += 1;
     }
 }
@@ -175,21 +259,38 @@ fn fold_source(
     word: u32,
     wide: usize,
     origin: Ping,
+    heights: &[u8],
 )
     requires { ⌜ (length (now acc) ≡ w) × ((w ≤ mostPings) × ((wide ≤ mostCells) × ((origin .0 < wide) × (v .0 * rowBytes (depthIf (k .packed)) w + rowBytes (depthIf (k .packed)) w ≤ length (now s))))) ⌝ }
-    ensures { λ _. ⌜ now (acc .exit) ≡ flatRow (k .grows) (now (acc .entry)) (seenRow k (now (s .entry)) w (v .0)) w word wide (origin .0) ⌝ }
+    ensures { λ _. ⌜ now (acc .exit) ≡ weighedRow (k .grows) (heightBy k (now (heights .entry))) (now (acc .entry)) (seenRow k (now (s .entry)) w (v .0)) w word wide (origin .0) ⌝ }
 {
     if k.packed {
         let from = unpacked(k.over, s, w, v);
-        fold_row(k.grows, acc, &from[..w], w, word, wide, origin);
+        fold_row(
+            k.grows,
+            acc,
+            &from[..w],
+            w,
+            word,
+            wide,
+            origin,
+            &heights[..0],
+        );
         return;
     }
     let a = (v.0 as usize) * w;
     let z = a + w;
-    fold_row(k.grows, acc, &s[a..z], w, word, wide, origin);
+    fold_row(k.grows, acc, &s[a..z], w, word, wide, origin, heights);
 }
 
-// One row of the element, if the source row that it leads to from row y lies in the frame.
+// A number held to another.
+fn at_most(n: usize, most: usize) -> usize
+    ensures { λ r. ⌜ r ≡ min n most ⌝ }
+{
+    if most < n { most } else { n }
+}
+
+// One row of the element, if the source row that it leads to from row y lies in the frame. Its heights are a part of all.
 fn add_row(
     k: Task,
     acc: &mut [u8],
@@ -199,11 +300,12 @@ fn add_row(
     y: Bin,
     word: u32,
     o: Outline,
+    heights: &[u8],
     row: Bin,
 )
     requires { ⌜ Ready k (length (now s)) (o .h) w h o ⌝ }
     requires { ⌜ (length (now acc) ≡ w) × ((y .0 < h) × (row .0 < o .h)) ⌝ }
-    ensures { λ _. ⌜ now (acc .exit) ≡ addedRow k (now (acc .entry)) (now (s .entry)) w h (y .0) word o (row .0) ⌝ }
+    ensures { λ _. ⌜ now (acc .exit) ≡ addedRow k (now (acc .entry)) (now (s .entry)) w h (y .0) word o (now (heights .entry)) (row .0) ⌝ }
 {
     let origin = o.origin;
     let from = origin.bin;
@@ -219,7 +321,20 @@ fn add_row(
     if h <= v {
         return;
     }
-    fold_source(k, acc, s, w, Bin(v as u16), word, o.w, origin.ping);
+    let n = r * o.w;
+    let a = at_most(n, heights.len());
+    let z = at_most(n + o.w, heights.len());
+    fold_source(
+        k,
+        acc,
+        s,
+        w,
+        Bin(v as u16),
+        word,
+        o.w,
+        origin.ping,
+        &heights[a..z],
+    );
 }
 
 // What a fold starts from in each column.
@@ -254,17 +369,18 @@ fn fold_rows(
     y: Bin,
     o: Outline,
     words: &[u32],
+    heights: &[u8],
 )
     requires { ⌜ Ready k (length (now s)) (length (now words)) w h o ⌝ }
     requires { ⌜ (length (now acc) ≡ w) × (y .0 < h) ⌝ }
-    ensures { λ _. ⌜ now (acc .exit) ≡ sweptColumns k (now (s .entry)) w h o (now (words .entry)) (y .0) ⌝ }
+    ensures { λ _. ⌜ now (acc .exit) ≡ sweptColumns k (now (s .entry)) w h o (now (words .entry)) (now (heights .entry)) (y .0) ⌝ }
 {
     let starts = [start_of(k); picture::MOST_PINGS];
     let start = &starts[..];
     copy(acc, start);
     let mut r = 0;
     while r < o.h {
-        add_row(k, acc, s, w, h, y, words[r], o, Bin(r as u16));
+        add_row(k, acc, s, w, h, y, words[r], o, heights, Bin(r as u16));
         r += 1;
     }
 }
@@ -303,7 +419,7 @@ fn pack(row: &[u8], t: &mut [u8], w: usize)
     }
 }
 
-// Row y of what the task makes of the picture in s, into the bytes of that row. A packed row is folded a byte to a point and packed once.
+// Row y of what the task makes of the picture in s, into the bytes of that row. A flat element has no bytes of heights. A packed row is folded a byte to a point and packed once.
 pub fn make_row(
     k: Task,
     t: &mut [u8],
@@ -313,18 +429,19 @@ pub fn make_row(
     y: Bin,
     o: Outline,
     words: &[u32],
+    heights: &[u8],
 )
     requires { ⌜ Ready k (length (now s)) (length (now words)) w h o ⌝ }
     requires { ⌜ (length (now t) ≡ rowBytes (depthIf (k .packed)) w) × (y .0 < h) ⌝ }
-    ensures { λ _. ⌜ now (t .exit) ≡ sweptRow k (now (s .entry)) w h o (now (words .entry)) (y .0) ⌝ }
+    ensures { λ _. ⌜ now (t .exit) ≡ sweptRow k (now (s .entry)) w h o (now (words .entry)) (now (heights .entry)) (y .0) ⌝ }
 {
     if k.packed {
         let mut acc = [0u8; picture::MOST_PINGS];
-        fold_rows(k, &mut acc[..w], s, w, h, y, o, words);
+        fold_rows(k, &mut acc[..w], s, w, h, y, o, words, heights);
         pack(&acc, t, w);
         return;
     }
-    fold_rows(k, t, s, w, h, y, o, words);
+    fold_rows(k, t, s, w, h, y, o, words, heights);
 }
 
 // The task of an erosion or a dilation.

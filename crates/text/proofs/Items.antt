@@ -34,7 +34,3 @@ put-then at a b t r u r' u' h p q p' q' = (
   p' ∙ ap (λ n. n + length b) p ∙ add-assoc at (length a) (length b) ∙ ap (λ n. at + n) (sym (length-append a b)),
   q' ∙ ap₂ (λ n l. put n b l) p q ∙ put-put at a b t h,
 )
-
-pub mark-long : (eight : Bool) (v x : ℕ) → eight ≡ false → 1 ≡ length (itemOf (depthIf eight) v x)
-unfolding itemOf
-mark-long eight v x e = sym (ap (λ b. length (itemOf (depthIf b) v x)) e)

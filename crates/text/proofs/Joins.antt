@@ -1,6 +1,6 @@
 -- A loop that puts the lists R 0, R 1, .. one after another.
 use Prim.Native.Nat.{ℕ, zero, suc, _+_, _≤_, _<_}
-use mathlib.Core.Path.{_≡_, refl, sym, ap, ap₂, _∙_}
+use mathlib.Core.Path.{_≡_, sym, ap, _∙_}
 use mathlib.Core.List.{List}
 use mathlib.Core.Logic.{⊎-elim}
 use native.Mathlib.Omega.{arith}
@@ -41,14 +41,3 @@ module _ (R : ℕ → List ℕ) where
   pub join-all : (at x w : ℕ) (t : List ℕ) (r : ℕ) (u : List ℕ) → x ≡ w → r ≡ at + length (joined R x) → u ≡ put at (joined R x) t
       → (r ≡ at + length (joined R w)) × (u ≡ put at (joined R w) t)
   join-all at x w t r u e p q = (p ∙ ap (λ n. at + length (joined R n)) e, q ∙ ap (λ n. put at (joined R n) t) e)
-
-  -- a loop that counts them
-  pub count-none : 0 ≡ length (joined R 0)
-  unfolding joined
-  count-none = refl
-
-  pub count-more : (x n m : ℕ) → n ≡ length (joined R x) → m ≡ length (R x) → n + m ≡ length (joined R (x + 1))
-  count-more x n m p q = ap₂ (λ a b. a + b) p q ∙ sym (step-long x) ∙ ap (λ k. length (joined R k)) (sym (add-one x))
-
-  pub count-all : (x w n : ℕ) → n ≡ length (joined R x) → x ≡ w → n ≡ length (joined R w)
-  count-all x w n p e = p ∙ ap (λ k. length (joined R k)) e

@@ -5,4 +5,5 @@ pub mod Joins
 pub mod Rows
 pub mod Heads
 pub mod Texts
+pub mod Longest
 pub mod Settled

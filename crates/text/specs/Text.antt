@@ -1,8 +1,9 @@
 -- Document 01, "echtext": what is printed of a picture. Letters are their ASCII numbers.
-use Prim.Native.Nat.{ℕ, _+_, _/_, _%_}
+use Prim.Native.Nat.{ℕ, _+_, _*_, _/_, _%_}
 use mathlib.Core.Bool.{cond}
 use mathlib.Core.List.{List, [], _∷_, _++_}
 use lib.Dec.{ltb, eqb}
+use lib.ListN.{length}
 use Rattle.basics.specs.Lists.{joined}
 use Rattle.picture.specs.declared.Depth.{Depth}
 use Rattle.picture.specs.declared.Depth.the-variants.{OneBit, EightBit}
@@ -49,6 +50,14 @@ rowLines depth A w h = joined (λ y. rowLine depth (λ x. A x y) w) h
 
 unfoldable pub textOf : Depth → Picture → ℕ → ℕ → ℕ → List ℕ
 textOf depth A w h kind = headLine w h kind ++ rowLines depth A w h
+
+-- the longest that a line of w points and the text of a picture can be: a value has at most three digits
+abbrev pub mostLine : Depth → ℕ → ℕ
+mostLine OneBit w = w + 1
+mostLine EightBit w = 4 * w
+
+unfoldable pub mostText : Depth → ℕ → ℕ → ℕ → ℕ
+mostText depth w h kind = length (headLine w h kind) + h * mostLine depth w
 
 -- "refused", a space and the number
 unfoldable pub refusedLine : ℕ → List ℕ

@@ -9,9 +9,9 @@ ghost use Prim.Native.Nat.{_+_, _*_, _/_, _%_, _≤_, _<_};
 ghost use lib.ListN.{length, drop};
 ghost use Rattle.text.specs.Put.{put};
 ghost use Rattle.basics.specs.Lists.{joined};
-ghost use Rattle.picture.specs.Frame.{mostPings, rowBytes, Holds};
+ghost use Rattle.picture.specs.Frame.{mostPings, mostBins, rowBytes, Holds};
 ghost use Rattle.picture.specs.Points.{valueAt, Within};
-ghost use Rattle.text.specs.Text.{digit, decimal, itemOf, headLine, textOf, refusedLine};
+ghost use Rattle.text.specs.Text.{digit, decimal, itemOf, headLine, mostLine, mostText, textOf, refusedLine};
 ghost use Rattle.text.specs.Lines.{depthIf, pointItem, lineOf};
 
 // One byte at a place; the next place comes back.
@@ -190,52 +190,6 @@ fn decimal_len(n: usize) -> usize
     4
 }
 
-// How long a point is as it is printed.
-fn item_len(eight: bool, v: u8, x: Ping) -> usize
-    ensures { λ r. ⌜ (r ≡ length (itemOf (depthIf eight) v (x .0))) × (r ≤ 5) ⌝ }
-{
-    if eight {
-        let n = decimal_len(size(v));
-        if x.0 == 0 {
-            return n;
-        }
-        return 1 + n;
-    }
-    1
-}
-
-// How long the points of row y are.
-fn items_len(eight: bool, s: &[u8], w: usize, y: Bin) -> usize
-    requires { ⌜ (w ≤ mostPings) × (y .0 * rowBytes (depthIf eight) w + rowBytes (depthIf eight) w ≤ length (now s)) ⌝ }
-    ensures { λ r. ⌜ (r ≡ length (joined (pointItem eight (now (s .entry)) w (y .0)) w)) × (r ≤ 5 * w) ⌝ }
-{
-    let mut n = 0;
-    let mut x = 0;
-    while x < w {
-        let p = Point {
-            ping: Ping(x as u16),
-            bin: y,
-        };
-        n += item_len(eight, value_of(eight, s, w, p), Ping(x as u16));
-        x += 1;
-    }
-    n
-}
-
-// How long all lines are.
-fn lines_len(eight: bool, s: &[u8], w: usize, h: usize) -> usize
-    requires { ⌜ Holds (depthIf eight) (length (now s)) w h ⌝ }
-    ensures { λ r. ⌜ (r ≡ length (joined (lineOf eight (now (s .entry)) w) h)) × (r ≤ h * 8192) ⌝ }
-{
-    let mut n = 0;
-    let mut y = 0;
-    while y < h {
-        n += 1 + items_len(eight, s, w, Bin(y as u16));
-        y += 1;
-    }
-    n
-}
-
 fn is_eight(depth: Depth) -> bool
     ensures { λ r. ⌜ depthIf r ≡ depth ⌝ }
 {
@@ -245,12 +199,23 @@ fn is_eight(depth: Depth) -> bool
     }
 }
 
-// How long the text of a picture is.
-pub fn text_len(depth: Depth, s: &[u8], w: usize, h: usize, kind: usize) -> usize
-    requires { ⌜ Holds depth (length (now s)) w h ⌝ }
-    ensures { λ r. ⌜ r ≡ length (textOf depth (valueAt depth (now (s .entry)) w) w h kind) ⌝ }
+// The longest that a line of w points can be, its line feed with it.
+fn most_line(depth: Depth, w: usize) -> usize
+    requires { ⌜ w ≤ mostPings ⌝ }
+    ensures { λ r. ⌜ (r ≡ mostLine depth w) × (r ≤ 4096) ⌝ }
 {
-    let n = lines_len(is_eight(depth), s, w, h);
+    match depth {
+        Depth::OneBit => w + 1,
+        Depth::EightBit => 4 * w,
+    }
+}
+
+// The longest that the text of a picture can be, by its size and kind alone.
+pub fn most_len(depth: Depth, w: usize, h: usize, kind: usize) -> usize
+    requires { ⌜ (w ≤ mostPings) × (h ≤ mostBins) ⌝ }
+    ensures { λ r. ⌜ r ≡ mostText depth w h kind ⌝ }
+{
+    let n = h * most_line(depth, w);
     12 + decimal_len(w) + decimal_len(h) + decimal_len(kind) + n
 }
 

@@ -1,82 +1,63 @@
-use Rattle.ech.proofs.Reading.{formed-read, unformed}
-use Rattle.ech.proofs.Judging.{formed-long}
-use Rattle.basics.proofs.Lists.{tail-is}
-use mathlib.Core.Path.{sym, _∙_}
 use native.Mathlib.Omega.{arith}
+use mathlib.Core.Path.{refl, sym, _∙_}
+use Rattle.basics.proofs.Lists.{tail-is}
+use Rattle.ech.proofs.Reading.{file-long, source-held, target-held, read-done, read-refused}
 use borrow.Author.Needs.{needs}
 use Rattle.ech.proofs.read_ech.Statement.{statement}
 use Rattle.ech.proofs.read_ech.Tie as tie
 
-is-formed-requires : tie.Need-is-formed-requires
-is-formed-requires c κs = search needs
+judge-ech-requires : tie.Need-judge-ech-requires
+judge-ech-requires c κs = search needs
 
-shared-slice-read-size : tie.Need-shared-slice-read-size
-shared-slice-read-size c = omega (arith, formed-long (c .before .before .before .before .before .args .file .now) (sym (c .before .before .is-formed .ensures) ∙ c .before .if1 .taken))
+is-done-requires : tie.Need-is-done-requires
+is-done-requires c κs = search needs
 
-size-requires : tie.Need-size-requires
-size-requires c κs = search needs
+depth-of-requires : tie.Need-depth-of-requires
+depth-of-requires c κs = search needs
 
-shared-slice-read-two : tie.Need-shared-slice-read-two
-shared-slice-read-two c = omega (arith, formed-long (c .before .before .before .before .before .before .before .args .file .now) (sym (c .before .before .before .before .is-formed .ensures) ∙ c .before .before .before .if1 .taken))
+face-of-requires : tie.Need-face-of-requires
+face-of-requires c κs = search needs
 
-shared-slice-read-two-2 : tie.Need-shared-slice-read-two-2
-shared-slice-read-two-2 c = omega (arith, formed-long (c .before .before .before .before .before .before .before .before .args .file .now) (sym (c .before .before .before .before .before .is-formed .ensures) ∙ c .before .before .before .before .if1 .taken))
+sub-copy-picture : tie.Need-sub-copy-picture
+sub-copy-picture c = let a = c .before .before .before .before .before .before .before .args in omega (arith, file-long (a .file .now) (a .target .now) _ _ (c .before .before .before .before .judge-ech .ensures) (sym (c .before .before .before .is-done .ensures) ∙ c .before .before .if1 .taken))
 
-two-requires : tie.Need-two-requires
-two-requires c κs = search needs
+part-copy-picture-start : tie.Need-part-copy-picture-start
+part-copy-picture-start c = let a = c .before .before .before .before .before .before .before .args in omega (arith, file-long (a .file .now) (a .target .now) _ _ (c .before .before .before .before .judge-ech .ensures) (sym (c .before .before .before .is-done .ensures) ∙ c .before .before .if1 .taken))
 
-shared-slice-read-two-3 : tie.Need-shared-slice-read-two-3
-shared-slice-read-two-3 c = omega (arith, formed-long (c .before .before .before .before .before .before .before .before .before .before .args .file .now) (sym (c .before .before .before .before .before .before .before .is-formed .ensures) ∙ c .before .before .before .before .before .before .if1 .taken))
+part-copy-picture-end : tie.Need-part-copy-picture-end
+part-copy-picture-end c = search needs
 
-shared-slice-read-two-4 : tie.Need-shared-slice-read-two-4
-shared-slice-read-two-4 c = omega (arith, formed-long (c .before .before .before .before .before .before .before .before .before .before .before .args .file .now) (sym (c .before .before .before .before .before .before .before .before .is-formed .ensures) ∙ c .before .before .before .before .before .before .before .if1 .taken))
-
-two-requires-2 : tie.Need-two-requires-2
-two-requires-2 c κs = search needs
-
-sub-read-body : tie.Need-sub-read-body
-sub-read-body c = omega (arith, formed-long (c .before .before .before .before .before .before .before .before .before .before .before .before .args .file .now) (sym (c .before .before .before .before .before .before .before .before .before .is-formed .ensures) ∙ c .before .before .before .before .before .before .before .before .if1 .taken))
-
-part-read-body-start : tie.Need-part-read-body-start
-part-read-body-start c = omega (arith, formed-long (c .before .before .before .before .before .before .before .before .before .before .before .before .args .file .now) (sym (c .before .before .before .before .before .before .before .before .before .is-formed .ensures) ∙ c .before .before .before .before .before .before .before .before .if1 .taken))
-
-part-read-body-end : tie.Need-part-read-body-end
-part-read-body-end c = search needs
-
-read-body-requires : tie.Need-read-body-requires
-read-body-requires c κs = search needs
+copy-picture-requires : tie.Need-copy-picture-requires
+copy-picture-requires c κs = let a = c .before .before .before .before .before .before .before .before .before .args in
+    let g = c .before .before .before .before .before .before .judge-ech .ensures in
+    let e = sym (c .before .before .before .before .before .is-done .ensures) ∙ c .before .before .before .before .if1 .taken in
+    (source-held (a .file .now) (a .target .now) _ _ g e _ _ (c .before .before .before .depth-of .ensures) (tail-is (a .file .now) 10), target-held (a .file .now) (a .target .now) _ _ g e _ (c .before .before .before .depth-of .ensures))
 
 same-length : tie.Need-same-length
 same-length c = search needs
 
 returns : tie.Need-returns
-returns c = let a = c .before .before .before .before .before .before .before .before .before .before .before .before .before .before .before .before .before .args in
-    formed-read (a .file .now) (a .target .now) (sym (c .before .before .before .before .before .before .before .before .before .before .before .before .before .before .is-formed .ensures) ∙ c .before .before .before .before .before .before .before .before .before .before .before .before .before .if1 .taken) _ _ _ _ _ _ (c .before .before .before .before .before .before .before .before .before .before .before .size .ensures .0) (c .before .before .before .before .before .before .before .before .two .ensures) (c .before .before .before .before .before .two2 .ensures) (tail-is (a .file .now) 10) (c .before .before .read-body .ensures .0) (c .before .before .read-body .ensures .1)
-
-refused-requires : tie.Need-refused-requires
-refused-requires c κs = search needs
+returns c = let a = c .before .before .before .before .before .before .before .before .before .before .before .before .args in
+    let g = c .before .before .before .before .before .before .before .before .before .judge-ech .ensures in
+    (g, read-done (a .file .now) (a .target .now) _ _ g (sym (c .before .before .before .before .before .before .before .before .is-done .ensures) ∙ c .before .before .before .before .before .before .before .if1 .taken) refl _ _ _ _ (c .before .before .before .before .before .before .depth-of .ensures) (c .before .before .before .before .before .face-of .ensures) (tail-is (a .file .now) 10) (c .before .before .copy-picture .ensures))
 
 returns-2 : tie.Need-returns-2
-returns-2 c = let a = c .before .before .before .before .before .args in unformed (a .file .now) (a .target .now) (sym (c .before .before .is-formed .ensures) ∙ c .before .if1 .left) _ (c .refused .ensures)
+returns-2 c = let a = c .before .before .before .before .before .args in
+    let g = c .before .before .judge-ech .ensures in
+    (g, read-refused (a .file .now) (a .target .now) _ _ g refl (sym (c .before .is-done .ensures) ∙ c .if1 .left))
 
 pub read-ech-spec : {M : Type 1} → statement M
 read-ech-spec =
     tie.close
     (tie.spec
-    is-formed-requires
-    shared-slice-read-size
-    size-requires
-    shared-slice-read-two
-    shared-slice-read-two-2
-    two-requires
-    shared-slice-read-two-3
-    shared-slice-read-two-4
-    two-requires-2
-    sub-read-body
-    part-read-body-start
-    part-read-body-end
-    read-body-requires
+    judge-ech-requires
+    is-done-requires
+    depth-of-requires
+    face-of-requires
+    sub-copy-picture
+    part-copy-picture-start
+    part-copy-picture-end
+    copy-picture-requires
     same-length
     returns
-    refused-requires
     returns-2)

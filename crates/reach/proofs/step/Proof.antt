@@ -1,6 +1,6 @@
-use Rattle.reach.proofs.Loops.{fill-store, step-all}
+use Rattle.basics.proofs.Lists.{fill-store, fill-none}
+use Rattle.reach.proofs.Loops.{step-all}
 use Rattle.reach.specs.Words.{sums, keptOf}
-use Rattle.basics.proofs.Lists.{fill-none}
 use Rattle.basics.specs.Lists.{firsts}
 use native.Mathlib.Omega.{arith}
 use borrow.Author.Needs.{needs}
@@ -42,7 +42,7 @@ loop-less : tie.Need-loop-less Inv-loop μ-loop
 loop-less c = search needs
 
 loop-again : tie.Need-loop-again Inv-loop μ-loop
-loop-again c = let l = c .before .before .loop in (search needs, fill-store _ (l .y) sums 0 (l .next) _ (omega arith) (l .inv .1) (c .kept-row .ensures))
+loop-again c = let l = c .before .before .loop in (search needs, fill-store _ sums 0 (l .y) (l .next) _ (omega arith) (l .inv .1) (c .kept-row .ensures))
 
 returns : tie.Need-returns Inv-loop μ-loop
 returns c = let a = c .before .before .before .args in step-all (a .board .now) (a .cells .now) (a .w) (a .h) _ (c .before .loop .y) (a .cut) _ (c .before .before .mask .ensures) (omega arith) (c .before .loop .inv .1)

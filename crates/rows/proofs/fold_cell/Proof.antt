@@ -1,5 +1,5 @@
 use mathlib.Core.Path.{sym, ap₂, _∙_}
-use Rattle.morphology.specs.Operations.{flat}
+use Rattle.rows.specs.Fold.{weighBy}
 use Rattle.element.specs.Record.{cellOn}
 use Rattle.rows.specs.Row.{cellRow}
 use Rattle.rows.proofs.Cell.{cell-set, cell-unset, part-order, part-end, parts-alike}
@@ -34,26 +34,26 @@ sub-te c = search needs
 sub-se : tie.Need-sub-se
 sub-se c = search needs
 
-sub-keep : tie.Need-sub-keep
-sub-keep c = search needs
+sub-keep-by : tie.Need-sub-keep-by
+sub-keep-by c = search needs
 
-part-keep-start : tie.Need-part-keep-start
-part-keep-start c = search needs
+part-keep-by-start : tie.Need-part-keep-by-start
+part-keep-by-start c = search needs
 
-part-keep-end : tie.Need-part-keep-end
-part-keep-end c = search needs
+part-keep-by-end : tie.Need-part-keep-by-end
+part-keep-by-end c = search needs
 
-sub-keep-2 : tie.Need-sub-keep-2
-sub-keep-2 c = part-order _ _ _ _ _ (c .before .before .past .ensures) (c .before .past2 .ensures)
+sub-keep-by-2 : tie.Need-sub-keep-by-2
+sub-keep-by-2 c = part-order _ _ _ _ _ (c .before .before .past .ensures) (c .before .past2 .ensures)
 
-part-keep-start-2 : tie.Need-part-keep-start-2
-part-keep-start-2 c = part-order _ _ _ _ _ (c .before .before .past .ensures) (c .before .past2 .ensures)
+part-keep-by-start-2 : tie.Need-part-keep-by-start-2
+part-keep-by-start-2 c = part-order _ _ _ _ _ (c .before .before .past .ensures) (c .before .past2 .ensures)
 
-part-keep-end-2 : tie.Need-part-keep-end-2
-part-keep-end-2 c = part-end _ _ _ (c .before .before .before .before .before .before .before .before .before .before .before .pre .1 .0)
+part-keep-by-end-2 : tie.Need-part-keep-by-end-2
+part-keep-by-end-2 c = part-end _ _ _ (c .before .before .before .before .before .before .before .before .before .before .before .pre .1 .0)
 
-keep-requires : tie.Need-keep-requires
-keep-requires c κs = let a = c .before .before .before .before .before .before .before .before .before .before .before .before .args in
+keep-by-requires : tie.Need-keep-by-requires
+keep-by-requires c κs = let a = c .before .before .before .before .before .before .before .before .before .before .before .before .args in
     let p = c .before .before .before .before .before .before .before .before .before .before .before .before .pre in
     parts-alike (a .t .now) (a .s .now) _ _ _ _ _ (p .0) (p .1 .0) (c .before .before .before .past .ensures) (c .before .before .past2 .ensures)
 
@@ -63,11 +63,11 @@ same-length c = search needs
 returns : tie.Need-returns
 returns c = let a = c .before .before .before .before .before .before .before .before .before .before .before .before .before .before .before .args in
     let p = c .before .before .before .before .before .before .before .before .before .before .before .before .before .before .before .pre in
-    cell-set (a .grows) flat 0 (cellOn (a .word) (a .cell .0)) (a .t .now) (a .s .now) _ _ _ _ _ _ (p .0) (p .1 .0) (c .before .before .before .before .before .before .past .ensures) (c .before .before .before .before .before .past2 .ensures) (c .before .before .keep .ensures) (sym (c .before .before .before .before .before .before .before .before .before .before .before .before .cell .ensures) ∙ c .before .before .before .before .before .before .before .before .before .before .before .if1 .taken)
-    ∙ ap₂ (λ i j. cellRow (a .grows) flat 0 (cellOn (a .word) (a .cell .0)) (a .t .now) (a .s .now) (a .w) i j) (c .before .before .before .before .before .before .before .before .chosen .ensures) (c .before .before .before .before .before .before .before .chosen2 .ensures)
+    cell-set (a .grows) (weighBy (a .grows)) (a .g) (cellOn (a .word) (a .cell .0)) (a .t .now) (a .s .now) _ _ _ _ _ _ (p .0) (p .1 .0) (c .before .before .before .before .before .before .past .ensures) (c .before .before .before .before .before .past2 .ensures) (c .before .before .keep-by .ensures) (sym (c .before .before .before .before .before .before .before .before .before .before .before .before .cell .ensures) ∙ c .before .before .before .before .before .before .before .before .before .before .before .if1 .taken)
+    ∙ ap₂ (λ i j. cellRow (a .grows) (weighBy (a .grows)) (a .g) (cellOn (a .word) (a .cell .0)) (a .t .now) (a .s .now) (a .w) i j) (c .before .before .before .before .before .before .before .before .chosen .ensures) (c .before .before .before .before .before .before .before .chosen2 .ensures)
 
 returns-2 : tie.Need-returns-2
-returns-2 c = let a = c .before .before .before .before .args in cell-unset (a .grows) flat 0 (cellOn (a .word) (a .cell .0)) (a .t .now) (a .s .now) _ _ _ (c .before .before .before .before .pre .0) (sym (c .before .cell .ensures) ∙ c .if1 .left)
+returns-2 c = let a = c .before .before .before .before .args in cell-unset (a .grows) (weighBy (a .grows)) (a .g) (cellOn (a .word) (a .cell .0)) (a .t .now) (a .s .now) _ _ _ (c .before .before .before .before .pre .0) (sym (c .before .cell .ensures) ∙ c .if1 .left)
 
 pub fold-cell-spec : {M : Type 1} → statement M
 fold-cell-spec =
@@ -82,13 +82,13 @@ fold-cell-spec =
     past-requires-2
     sub-te
     sub-se
-    sub-keep
-    part-keep-start
-    part-keep-end
-    sub-keep-2
-    part-keep-start-2
-    part-keep-end-2
-    keep-requires
+    sub-keep-by
+    part-keep-by-start
+    part-keep-by-end
+    sub-keep-by-2
+    part-keep-by-start-2
+    part-keep-by-end-2
+    keep-by-requires
     same-length
     returns
     returns-2)

@@ -8,10 +8,10 @@ use Rattle.rows.proofs.fold_rows.Statement.{statement}
 use Rattle.rows.proofs.fold_rows.Tie as tie
 
 abbrev Inv-loop : tie.InvT-loop
-Inv-loop k acc₀ s w h y o words r₀ acc r = (r ≤ o .h) × (length acc ≡ length acc₀) × (acc ≡ partColumns k s w h o words (y .0) r)
+Inv-loop k acc₀ s w h y o words heights r₀ acc r = (r ≤ o .h) × (length acc ≡ length acc₀) × (acc ≡ partColumns k s w h o words heights (y .0) r)
 
 abbrev μ-loop : tie.MeasureT-loop
-μ-loop k acc₀ s w h y o words r₀ acc r = o .h - r
+μ-loop k acc₀ s w h y o words heights r₀ acc r = o .h - r
 
 start-of-requires : tie.Need-start-of-requires Inv-loop μ-loop
 start-of-requires c κs = search needs
@@ -23,7 +23,7 @@ copy-requires : tie.Need-copy-requires Inv-loop μ-loop
 copy-requires c κs = search needs
 
 loop-holds : tie.Need-loop-holds Inv-loop μ-loop
-loop-holds c = let a = c .before .before .before .before .before .before .before .before .before .args in (search needs, refl, part-none (a .k) (a .s .now) (a .w) (a .h) (a .o) (a .words .now) (a .y .0) _ _ _ _ (c .before .before .copy .ensures) (c .before .before .before .before .before .before .before .before .before .pre .1 .0) refl (c .before .before .before .before .before .before .before .before .before .pre .0 .few-pings) (c .before .before .before .before .before .start-of .ensures))
+loop-holds c = let a = c .before .before .before .before .before .before .before .before .before .before .args in (search needs, refl, part-none (a .k) (a .s .now) (a .w) (a .h) (a .o) (a .words .now) (a .heights .now) (a .y .0) _ _ _ _ (c .before .before .copy .ensures) (c .before .before .before .before .before .before .before .before .before .before .pre .1 .0) refl (c .before .before .before .before .before .before .before .before .before .before .pre .0 .few-pings) (c .before .before .before .before .before .start-of .ensures))
 
 mul-add-row : tie.Need-mul-add-row Inv-loop μ-loop
 mul-add-row c = search needs
@@ -31,11 +31,11 @@ mul-add-row c = search needs
 shared-slice-read-add-row : tie.Need-shared-slice-read-add-row Inv-loop μ-loop
 shared-slice-read-add-row c = search needs
 
-cast-t24 : tie.Need-cast-t24 Inv-loop μ-loop
-cast-t24 c = search needs
+cast-t25 : tie.Need-cast-t25 Inv-loop μ-loop
+cast-t25 c = search needs
 
 add-row-requires : tie.Need-add-row-requires Inv-loop μ-loop
-add-row-requires c κs = let p = c .before .before .before .before .before .before .before .before .before .before .before .before .before .before .pre in
+add-row-requires c κs = let p = c .before .before .before .before .before .before .before .before .before .before .before .before .before .before .before .pre in
     let l = c .before .before .before .before .loop in (
       record {
         few-pings = p .0 .few-pings;
@@ -57,16 +57,16 @@ loop-less : tie.Need-loop-less Inv-loop μ-loop
 loop-less c = search needs
 
 loop-again : tie.Need-loop-again Inv-loop μ-loop
-loop-again c = let a = c .before .before .before .before .before .before .before .before .before .before .before .before .before .before .before .before .before .args in
+loop-again c = let a = c .before .before .before .before .before .before .before .before .before .before .before .before .before .before .before .before .before .before .args in
     let l = c .before .before .before .before .before .before .before .loop in
     let r = c .before .before .add-row in
-    (search needs, r .kept .1 .0 ∙ l .inv .1, part-more (a .k) (a .s .now) (a .w) (a .h) (a .o) (a .words .now) (a .y .0) (l .r) _ _ _ (l .inv .2) refl (r .ensures))
+    (search needs, r .kept .1 .0 ∙ l .inv .1, part-more (a .k) (a .s .now) (a .w) (a .h) (a .o) (a .words .now) (a .heights .now) (a .y .0) (l .r) _ _ _ (l .inv .2) refl (r .ensures))
 
 same-length : tie.Need-same-length Inv-loop μ-loop
 same-length c = c .before .before .loop .inv .1 ∙ c .before .before .before .before .before .copy .kept .0
 
 returns : tie.Need-returns Inv-loop μ-loop
-returns c = let a = c .before .before .before .before .before .before .before .before .before .before .before .before .args in part-all (a .k) (a .s .now) (a .w) (a .h) (a .o) (a .words .now) (a .y .0) _ _ (c .before .before .loop .inv .2) (omega arith)
+returns c = let a = c .before .before .before .before .before .before .before .before .before .before .before .before .before .args in part-all (a .k) (a .s .now) (a .w) (a .h) (a .o) (a .words .now) (a .heights .now) (a .y .0) _ _ (c .before .before .loop .inv .2) (omega arith)
 
 pub fold-rows-spec : {M : Type 1} → statement M
 fold-rows-spec =
@@ -80,7 +80,7 @@ fold-rows-spec =
     loop-holds
     mul-add-row
     shared-slice-read-add-row
-    cast-t24
+    cast-t25
     add-row-requires
     add-r
     loop-less

@@ -1,0 +1,4 @@
+pub mod Links
+pub mod Turns
+pub mod Answers
+pub mod Settled

@@ -1,0 +1,11 @@
+use Rattle.job.specs.Parts.{defaultElement}
+use mathlib.Core.Path.{refl}
+use Rattle.job.proofs.default_element.Statement.{statement}
+use Rattle.job.proofs.default_element.Tie as tie
+
+returns : tie.Need-returns
+unfolding defaultElement
+returns c = refl
+
+pub default-element-spec : {M : Type 1} → statement M
+default-element-spec = tie.close (tie.spec returns)

@@ -1,0 +1,4 @@
+pub mod Refused
+pub mod Given
+pub mod Swept
+pub mod Settled

@@ -1,0 +1,38 @@
+use Rattle.morphology.specs.Weighted.{lower}
+use borrow.Author.Tests.{lt-ltb, le-ltb}
+use native.Mathlib.Omega.{arith}
+use borrow.Author.Needs.{needs}
+use Rattle.rows.proofs.lowered.Statement.{statement}
+use Rattle.rows.proofs.lowered.Tie as tie
+
+sub-up : tie.Need-sub-up
+sub-up c = search needs
+
+add-up : tie.Need-add-up
+add-up c = search needs
+
+sub-if3 : tie.Need-sub-if3
+sub-if3 c = search needs
+
+add-result : tie.Need-add-result
+add-result c = search needs
+
+returns : tie.Need-returns
+unfolding lower
+returns c = rw (lt-ltb _ _ (c .before .if1 .taken)) (omega arith)
+
+returns-2 : tie.Need-returns-2
+unfolding lower
+returns-2 c = simp (lt-ltb _ _ (c .before .if1 .taken))
+
+returns-3 : tie.Need-returns-3
+unfolding lower
+returns-3 c = rw (le-ltb _ _ (c .before .if1 .left)) (omega arith)
+
+returns-4 : tie.Need-returns-4
+unfolding lower
+returns-4 c = rw (le-ltb _ _ (c .before .if1 .left)) (omega arith)
+
+pub lowered-spec : {M : Type 1} → statement M
+lowered-spec =
+    tie.close (tie.spec sub-up add-up sub-if3 add-result returns returns-2 returns-3 returns-4)

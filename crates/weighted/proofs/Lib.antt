@@ -1,0 +1,2 @@
+pub mod Padless
+pub mod Settled

@@ -1,0 +1,40 @@
+/* Leptonica for the benchmark, at one bit. Its symmetric boundary is the rule of document 01. */
+#include "bench.h"
+
+#include <leptonica/allheaders.h>
+#include <string.h>
+
+static PIX *from, *to;
+static SEL *sel;
+
+void leptonica_prepare(int w, int h, const uint8_t *source, const uint8_t *element) {
+    resetMorphBoundaryCondition(SYMMETRIC_MORPH_BC);
+    pixDestroy(&from);
+    pixDestroy(&to);
+    selDestroy(&sel);
+    from = pixCreate(w, h, 1), to = pixCreate(w, h, 1);
+    for (int y = 0; y < h; y++)
+        for (int x = 0; x < w; x++)
+            if (source[y * ((w + 7) / 8) + x / 8] >> (7 - x % 8) & 1) pixSetPixel(from, x, y, 1);
+    sel = selCreate(element[1], element[0], "element");
+    selSetOrigin(sel, element[3], element[2]);
+    for (int r = 0; r < element[1]; r++)
+        for (int c = 0; c < element[0]; c++)
+            if (element[4 + r * ((element[0] + 7) / 8) + c / 8] >> (7 - c % 8) & 1) selSetElement(sel, r, c, SEL_HIT);
+}
+
+void leptonica_run(char way) {
+    if (way == 'e') pixErode(to, from, sel);
+    else pixOpen(to, from, sel);
+}
+
+void leptonica_result(uint8_t *target) {
+    int w = pixGetWidth(to), h = pixGetHeight(to);
+    memset(target, 0, (size_t)((w + 7) / 8 * h));
+    for (int y = 0; y < h; y++)
+        for (int x = 0; x < w; x++) {
+            l_uint32 v = 0;
+            pixGetPixel(to, x, y, &v);
+            if (v) target[y * ((w + 7) / 8) + x / 8] |= (uint8_t)(128 >> x % 8);
+        }
+}

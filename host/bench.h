@@ -1,0 +1,24 @@
+/* What the benchmark asks of a library that may be there: prepare makes its own picture and element, which is not measured; run is the operation, 'e' or 'o';
+ * result gives the picture back in our form. */
+#ifndef BENCH_H
+#define BENCH_H
+
+#include <stdint.h>
+
+#ifdef __cplusplus
+extern "C" {
+#endif
+
+void opencv_prepare(int w, int h, const uint8_t *source, const uint8_t *element);
+void opencv_run(char way);
+void opencv_result(uint8_t *target);
+
+void leptonica_prepare(int w, int h, const uint8_t *source, const uint8_t *element);
+void leptonica_run(char way);
+void leptonica_result(uint8_t *target);
+
+#ifdef __cplusplus
+}
+#endif
+
+#endif

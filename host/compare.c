@@ -1,0 +1,589 @@
+/* compare SEED ROUNDS: the library beside the independent implementation, on ROUNDS random calls of each function, many of them damaged. The answer and every
+ * byte of every buffer, those around it too, must be the same. First the rows of document 01's table, with bytes written by hand. The same seed makes the
+ * same calls. It exits with 1 if anything differs, or if a refusal that a function can give was not met in 500 rounds or more. */
+#include "independent.h"
+#include "qiksavlut.h"
+
+#include <stdio.h>
+#include <stdlib.h>
+#include <string.h>
+
+/* ---- chance */
+
+static uint64_t state;
+
+static uint64_t draw(void) {
+    uint64_t z = state += 0x9e3779b97f4a7c15u;
+    z = (z ^ z >> 30) * 0xbf58476d1ce4e5b9u;
+    z = (z ^ z >> 27) * 0x94d049bb133111ebu;
+    return z ^ z >> 31;
+}
+
+/* the place in the order of chance at which a round of a function begins, whatever other functions there are */
+static void begin(uint64_t seed, const char *name, uint64_t round) {
+    state = seed;
+    while (*name) state = state * 1099511628211u + (uint64_t)*name++;
+    state = state * 1000003u + round;
+}
+
+static int below(int n) { return (int)(draw() % (uint64_t)n); }
+static int from_to(int a, int z) { return a + below(z - a + 1); }
+static int chance(int percent) { return below(100) < percent; }
+
+/* ---- lent buffers: each twice, for the library and for the independent implementation, with bytes around it that nobody may touch */
+
+enum { SOURCE, ELEMENT, OTHER, TARGET, SCRATCH, BUFFERS };
+enum { LIBRARY, INDEPENDENT };
+enum { AROUND = 16, MOST = 262144 + 64 };
+
+static const char *const buffer_name[BUFFERS] = {"source", "element", "miss or chain", "target", "scratch or second"};
+static uint8_t memory[2][BUFFERS][MOST + 2 * AROUND];
+static size_t length[BUFFERS];
+
+static uint8_t *bytes_of(int b) { return memory[LIBRARY][b] + AROUND; }
+
+static struct lent lent(int side, int b) { return (struct lent){memory[side][b] + AROUND, length[b]}; }
+
+/* gives a buffer its length and random bytes, with those around it */
+static void fresh(int b, size_t len) {
+    length[b] = len;
+    for (size_t i = 0; i < len + 2 * AROUND; i += 8) {
+        uint64_t v = draw();
+        memcpy(memory[LIBRARY][b] + i, &v, i + 8 <= sizeof memory[LIBRARY][b] ? 8 : sizeof memory[LIBRARY][b] - i);
+    }
+}
+
+/* ---- the functions */
+
+typedef uint32_t plain_call(uint64_t, uint64_t, const uint8_t *, size_t, const uint8_t *, size_t, uint8_t *, size_t);
+typedef uint32_t middle_call(uint64_t, uint64_t, const uint8_t *, size_t, const uint8_t *, size_t, uint8_t *, size_t, uint8_t *, size_t);
+typedef uint32_t chain_call(uint64_t, uint64_t, const uint8_t *, size_t, const uint8_t *, size_t, uint64_t, const uint8_t *, size_t, uint8_t *, size_t,
+                            uint8_t *, size_t);
+
+enum kind { FLAT, WEIGHTED, HIT, CHECK, CHAINED, READ, WRITE };
+
+static const struct function {
+    const char *name;
+    enum kind kind;
+    int depth;
+    char way;
+    plain_call *plain;
+    middle_call *middle;
+    chain_call *chain;
+    const char *numbers; /* those that it can give */
+} functions[] = {
+    {"erode1", FLAT, 1, 'e', qik_erode1, 0, 0, "012348"},
+    {"dilate1", FLAT, 1, 'd', qik_dilate1, 0, 0, "012348"},
+    {"open1", FLAT, 1, 'o', 0, qik_open1, 0, "012348"},
+    {"close1", FLAT, 1, 'c', 0, qik_close1, 0, "012348"},
+    {"erode8", FLAT, 8, 'e', qik_erode8, 0, 0, "01248"},
+    {"dilate8", FLAT, 8, 'd', qik_dilate8, 0, 0, "01248"},
+    {"open8", FLAT, 8, 'o', 0, qik_open8, 0, "01248"},
+    {"close8", FLAT, 8, 'c', 0, qik_close8, 0, "01248"},
+    {"hit_or_miss", HIT, 1, 0, 0, 0, 0, "0123458"},
+    {"weighted_erode", WEIGHTED, 8, 'e', qik_weighted_erode, 0, 0, "01248"},
+    {"weighted_dilate", WEIGHTED, 8, 'd', qik_weighted_dilate, 0, 0, "01248"},
+    {"weighted_open", WEIGHTED, 8, 'o', 0, qik_weighted_open, 0, "01248"},
+    {"weighted_close", WEIGHTED, 8, 'c', 0, qik_weighted_close, 0, "01248"},
+    {"check_chain", CHECK, 0, 0, 0, 0, 0, "0467"},
+    {"chain_erode1", CHAINED, 1, 'e', 0, 0, qik_chain_erode1, "01234678"},
+    {"chain_dilate1", CHAINED, 1, 'd', 0, 0, qik_chain_dilate1, "01234678"},
+    {"chain_erode8", CHAINED, 8, 'e', 0, 0, qik_chain_erode8, "0124678"},
+    {"chain_dilate8", CHAINED, 8, 'd', 0, 0, qik_chain_dilate8, "0124678"},
+    {"ech_read", READ, 0, 0, 0, 0, 0, "012389"},
+    {"ech_write", WRITE, 0, 0, 0, 0, 0, "012389"},
+};
+
+enum { FUNCTIONS = sizeof functions / sizeof *functions };
+
+/* the numbers of a call, beside its buffers */
+static uint64_t w, h, links, kind;
+
+static uint64_t library_answer(const struct function *f) {
+    struct lent s = lent(LIBRARY, SOURCE), e = lent(LIBRARY, ELEMENT), o = lent(LIBRARY, OTHER), t = lent(LIBRARY, TARGET), m = lent(LIBRARY, SCRATCH);
+    switch (f->kind) {
+    case FLAT:
+    case WEIGHTED:
+        if (f->plain) return f->plain(w, h, s.at, s.len, e.at, e.len, t.at, t.len);
+        return f->middle(w, h, s.at, s.len, e.at, e.len, t.at, t.len, m.at, m.len);
+    case HIT: return qik_hit_or_miss(w, h, s.at, s.len, e.at, e.len, o.at, o.len, t.at, t.len);
+    case CHECK: return qik_check_chain(e.at, e.len, links, o.at, o.len);
+    case CHAINED: return f->chain(w, h, s.at, s.len, e.at, e.len, links, o.at, o.len, t.at, t.len, m.at, m.len);
+    case READ: return qik_ech_read(s.at, s.len, t.at, t.len);
+    default: return qik_ech_write(kind, w, h, s.at, s.len, t.at, t.len);
+    }
+}
+
+static uint64_t packed(struct told a) { return (uint64_t)a.number + 256u * (uint64_t)((a.dx + 256) % 256) + 65536u * (uint64_t)((a.dy + 256) % 256); }
+
+static uint64_t independent_answer(const struct function *f) {
+    struct lent s = lent(INDEPENDENT, SOURCE), e = lent(INDEPENDENT, ELEMENT), o = lent(INDEPENDENT, OTHER), t = lent(INDEPENDENT, TARGET),
+                m = lent(INDEPENDENT, SCRATCH);
+    struct file_told r;
+    switch (f->kind) {
+    case FLAT: return (uint64_t)own_flat(f->depth, f->way, w, h, s, e, t, m);
+    case WEIGHTED: return (uint64_t)own_weighted(f->way, w, h, s, e, t, m);
+    case HIT: return (uint64_t)own_hit_or_miss(w, h, s, e, o, t);
+    case CHECK: return packed(own_check_chain(e, links, o));
+    case CHAINED: return packed(own_chained(f->depth, f->way, w, h, s, e, links, o, t, m));
+    case READ:
+        r = own_ech_read(s, t);
+        return (uint64_t)r.number + 256u * (uint64_t)r.kind + 65536u * (uint64_t)r.w + 4294967296u * (uint64_t)r.h;
+    default: return (uint64_t)own_ech_write(kind, w, h, s, t);
+    }
+}
+
+/* ---- inputs */
+
+static int is_sized(void) { return w >= 1 && w <= 1024 && h >= 1 && h <= 256; }
+
+static size_t row_len(int depth, size_t pings) { return depth == 1 ? (pings + 7) / 8 : pings; }
+
+static uint64_t huge(void) {
+    static const uint64_t far[] = {1025, 257, 65536 + 7, 4294967296u, 4294967296u + 8, 9223372036854775808u, 9223372036854775808u + 1, 18446744073709551615u};
+    return far[below(sizeof far / sizeof *far)];
+}
+
+/* large frames are few: the independent implementation goes point by point */
+static void some_frame(void) {
+    int a = 0;
+    switch (below(10)) {
+    case 0: w = 1, h = (uint64_t)from_to(1, 64); break;
+    case 1: w = (uint64_t)from_to(1, chance(10) ? 1024 : 100), h = 1; break;
+    case 2: w = (uint64_t)from_to(1, 8), h = (uint64_t)from_to(1, 8); break;
+    case 3: a = 8 * from_to(1, 6), w = (uint64_t)from_to(a - 1, a + 1), h = (uint64_t)from_to(1, 10); break;
+    case 4:
+        if (chance(4)) w = (uint64_t)from_to(1000, 1024), h = (uint64_t)from_to(250, 256);
+        else w = (uint64_t)from_to(1, 200), h = (uint64_t)from_to(1, 20);
+        break;
+    default: w = (uint64_t)from_to(1, 40), h = (uint64_t)from_to(1, 12);
+    }
+    if (chance(5)) {
+        int which = below(3);
+        if (which != 0) w = chance(30) ? 0 : huge();
+        if (which != 1) h = chance(30) ? 0 : huge();
+    }
+}
+
+static void clear_padding(uint8_t *rows, size_t pings, size_t n) {
+    size_t row = (pings + 7) / 8;
+    for (size_t y = 0; y < n && pings % 8; y++) rows[y * row + row - 1] &= (uint8_t)(255 << (8 - pings % 8));
+}
+
+/* a picture, or what should be one, at a place in a buffer; gives its length */
+static size_t some_picture(int b, size_t from, int depth) {
+    size_t pings = is_sized() ? (size_t)w : (size_t)from_to(1, 20), n = is_sized() ? (size_t)h : (size_t)from_to(1, 4), row = row_len(depth, pings), len = row * n;
+    fresh(b, from + len + 16);
+    uint8_t *t = bytes_of(b) + from;
+    int sort = below(6);
+    for (size_t i = 0; i < len; i++) {
+        if (sort == 0) t[i] = 0;
+        if (sort == 1) t[i] = 255;
+        if (sort == 2) t[i] = chance(90) ? 255 : t[i]; /* mostly echo */
+        if (sort == 3) t[i] = chance(90) ? 0 : t[i];
+        if (sort == 4 && i > 0 && chance(80)) t[i] = depth == 1 ? (uint8_t)(t[i - 1] & 1 ? 255 : 0) : t[i - 1]; /* runs */
+    }
+    if (depth == 1) {
+        clear_padding(t, pings, n);
+        if (pings % 8 && chance(5)) t[(size_t)below((int)n) * row + row - 1] |= (uint8_t)(1 << below(8 - (int)(pings % 8)));
+    }
+    if (chance(6)) {
+        size_t other[] = {len - 1, len + 1, 0, len + 8, (size_t)below((int)len)};
+        len = other[below(5)];
+    }
+    length[b] = from + len;
+    return len;
+}
+
+/* room for a picture, or too little */
+static void some_room(int b, size_t need) {
+    size_t len = chance(40) ? need : need + (size_t)below(20);
+    if (need && chance(5)) len = chance(50) ? need - 1 : (size_t)below((int)need);
+    fresh(b, len);
+}
+
+static size_t needed(int depth) { return is_sized() ? row_len(depth, (size_t)w) * (size_t)h : (size_t)below(30); }
+
+static void set_cell(uint8_t *d, int c, int r) { d[4 + r * ((d[0] + 7) / 8) + c / 8] |= (uint8_t)(128 >> c % 8); }
+static int has_cell(const uint8_t *d, int c, int r) { return d[4 + r * ((d[0] + 7) / 8) + c / 8] >> (7 - c % 8) & 1; }
+
+/* the bytes of a whole descriptor of this size */
+static size_t descriptor_len(int ew, int eh, int weighted) { return 4 + (size_t)eh * (size_t)((ew + 7) / 8) + (weighted ? (size_t)(ew * eh) : 0); }
+
+static int some_height(int sort) {
+    switch (sort) {
+    case 0: return 0;
+    case 1: return from_to(-10, 10);
+    case 2: return chance(50) ? 127 : -127;
+    default: return from_to(-127, 127);
+    }
+}
+
+/* writes a well made descriptor of ew by eh at d, with about this share of its cells set; gives its length */
+static size_t put_descriptor(uint8_t *d, int ew, int eh, int share, int weighted) {
+    size_t len = descriptor_len(ew, eh, weighted), cells = descriptor_len(ew, eh, 0);
+    int sort = below(4);
+    memset(d, 0, len);
+    d[0] = (uint8_t)ew, d[1] = (uint8_t)eh, d[2] = (uint8_t)below(ew), d[3] = (uint8_t)below(eh);
+    int lone = share < 0 ? below(ew * eh) : -1, origin_unset = chance(20);
+    for (int r = 0; r < eh; r++)
+        for (int c = 0; c < ew; c++) {
+            if (lone >= 0 ? r * ew + c != lone : !chance(share)) continue;
+            if (origin_unset && c == d[2] && r == d[3]) continue;
+            set_cell(d, c, r);
+            if (weighted) d[cells + (size_t)(r * ew + c)] = (uint8_t)some_height(sort);
+        }
+    return len;
+}
+
+/* breaks a descriptor in one way; gives its new length */
+static size_t damaged(uint8_t *d, size_t len, int weighted) {
+    int ew = d[0], eh = d[1], c = below(ew), r = below(eh);
+    size_t cells = descriptor_len(ew, eh, 0);
+    static const uint8_t wrong[] = {0, 33, 64, 255};
+    switch (below(weighted ? 12 : 10)) {
+    case 0: return len - 1;
+    case 1: return len + 1;
+    case 2: return (size_t)below(5);
+    case 3: d[0] = wrong[below(4)]; return len;
+    case 4: d[1] = wrong[below(4)]; return len;
+    case 5: d[2] = (uint8_t)(chance(50) ? ew : 255); return len;
+    case 6: d[3] = (uint8_t)(chance(50) ? eh : 255); return len;
+    case 7:
+        if (ew % 8) d[4 + (size_t)r * (size_t)((ew + 7) / 8) + (size_t)((ew + 7) / 8) - 1] |= (uint8_t)(1 << below(8 - ew % 8));
+        return len;
+    case 8: return weighted ? cells : cells + (size_t)(ew * eh); /* the other sort of descriptor */
+    case 9: d[(size_t)below((int)len)] ^= (uint8_t)(1 << below(8)); return len;
+    case 10: set_cell(d, c, r), d[cells + (size_t)(r * ew + c)] = 128; return len;
+    default:
+        d[4 + (size_t)r * (size_t)((ew + 7) / 8) + (size_t)(c / 8)] &= (uint8_t)~(128 >> c % 8);
+        d[cells + (size_t)(r * ew + c)] = 1;
+        return len;
+    }
+}
+
+static void some_element(int b, int weighted) {
+    static const int shares[] = {0, 100, 100, 60, 25, 5, -1};
+    int ew = 1, eh = 1, share = shares[below(7)];
+    double points = is_sized() ? (double)w * (double)h : 1;
+    fresh(b, 1200);
+    switch (below(8)) {
+    case 0: break;
+    case 1: ew = from_to(1, 32); break;
+    case 2: eh = from_to(1, 32); break;
+    case 3: ew = from_to(1, 8), eh = from_to(1, 8); break;
+    case 4: ew = from_to(1, 32), eh = from_to(1, 32); break;
+    case 5: ew = eh = 32; break;
+    case 6: ew = eh = 3; break;
+    default: ew = from_to(7, 17), eh = from_to(1, 5);
+    }
+    if (points * ew * eh > 400000) ew = from_to(1, 3), eh = from_to(1, 3);
+    size_t len = put_descriptor(bytes_of(b), ew, eh, share, weighted);
+    length[b] = chance(8) ? damaged(bytes_of(b), len, weighted) : len;
+}
+
+/* the offsets of descriptors well made, as a board */
+enum { FAR = 48, SIDE = 2 * FAR + 1 };
+
+static void add_link(uint8_t board[SIDE][SIDE], const uint8_t *d) {
+    uint8_t sums[SIDE][SIDE];
+    memset(sums, 0, sizeof sums);
+    for (int y = 0; y < SIDE; y++)
+        for (int x = 0; x < SIDE; x++)
+            for (int r = 0; r < d[1] && board[y][x]; r++)
+                for (int c = 0; c < d[0]; c++)
+                    if (has_cell(d, c, r)) sums[y + r - d[3]][x + c - d[2]] = 1;
+    memcpy(board, sums, sizeof sums);
+}
+
+/* the descriptor of a board with its offset 0, 0 as origin; 0 where it is too large */
+static size_t put_board(uint8_t *d, uint8_t board[SIDE][SIDE]) {
+    int left = FAR, right = FAR, up = FAR, down = FAR;
+    for (int y = 0; y < SIDE; y++)
+        for (int x = 0; x < SIDE; x++)
+            if (board[y][x]) {
+                left = x < left ? x : left, right = x > right ? x : right;
+                up = y < up ? y : up, down = y > down ? y : down;
+            }
+    if (right - left > 31 || down - up > 31) return 0;
+    size_t len = descriptor_len(right - left + 1, down - up + 1, 0);
+    memset(d, 0, len);
+    d[0] = (uint8_t)(right - left + 1), d[1] = (uint8_t)(down - up + 1), d[2] = (uint8_t)(FAR - left), d[3] = (uint8_t)(FAR - up);
+    for (int y = up; y <= down; y++)
+        for (int x = left; x <= right; x++)
+            if (board[y][x]) set_cell(d, x - left, y - up);
+    return len;
+}
+
+/* links and an element that is mostly their sums, or nearly */
+static void some_chain(void) {
+    static uint8_t board[SIDE][SIDE];
+    int n = chance(30) ? 2 : from_to(1, 5), most = n > 3 ? 4 : 6;
+    memset(board, 0, sizeof board);
+    board[FAR][FAR] = 1;
+    fresh(OTHER, 500);
+    fresh(ELEMENT, 1200);
+    uint8_t *d = bytes_of(OTHER);
+    size_t end = 0;
+    for (int i = 0; i < n; i++) {
+        int ew = 1, eh = 1, share = 100;
+        switch (below(8)) {
+        case 0: ew = from_to(1, most); break;
+        case 1: eh = from_to(1, most); break;
+        case 2: ew = from_to(1, most), eh = from_to(1, most); break;
+        case 3: ew = from_to(1, 3), eh = from_to(1, 3), share = -1; break;
+        case 4: ew = from_to(1, 8), eh = from_to(1, 8), share = 50; break;
+        case 5: ew = from_to(1, 3), share = 70; break;
+        default: ew = from_to(1, 2), eh = from_to(1, 2);
+        }
+        if (chance(2)) share = 0;
+        size_t len = put_descriptor(d + end, ew, eh, share, 0);
+        add_link(board, d + end);
+        if (chance(2)) len = damaged(d + end, len, 0);
+        if (chance(1)) len = put_descriptor(d + end, 9, 1, 50, 0);
+        if (chance(1)) len = put_descriptor(d + end, 1, 9, 50, 0);
+        end += len;
+    }
+    links = (uint64_t)n;
+    if (chance(3)) links = chance(50) ? (uint64_t)below(9) : 4294967296u + (uint64_t)n;
+    if (chance(2)) end = chance(50) ? end + 1 : (size_t)below((int)end + 1);
+    length[OTHER] = end;
+
+    if (chance(25)) board[FAR + from_to(-6, 6)][FAR + from_to(-6, 6)] ^= 1;
+    size_t len = put_board(bytes_of(ELEMENT), board);
+    if (len == 0 || chance(5)) some_element(ELEMENT, 0);
+    else length[ELEMENT] = chance(3) ? damaged(bytes_of(ELEMENT), len, 0) : len;
+}
+
+static void some_file(void) {
+    kind = (uint64_t)from_to(1, 3);
+    some_frame();
+    w %= 65536, h %= 65536;
+    size_t len = some_picture(SOURCE, 10, kind == 2 ? 8 : 1);
+    const uint8_t head[10] = {69, 67, 72, 1, 0, (uint8_t)kind, (uint8_t)w, (uint8_t)(w >> 8), (uint8_t)h, (uint8_t)(h >> 8)};
+    memcpy(bytes_of(SOURCE), head, 10);
+    some_room(TARGET, is_sized() ? needed(kind == 2 ? 8 : 1) : len);
+    if (chance(5)) bytes_of(SOURCE)[below(6)] ^= (uint8_t)(1 << below(8));
+    if (chance(3)) bytes_of(SOURCE)[5] = (uint8_t)(chance(50) ? 0 : 4);
+    if (chance(3)) length[SOURCE] = (size_t)below(11);
+    if (chance(3)) bytes_of(SOURCE)[(size_t)below(10)] = (uint8_t)below(256);
+}
+
+static void some_call(const struct function *f) {
+    for (int b = 0; b < BUFFERS; b++) fresh(b, 0);
+    w = h = links = kind = 0;
+    if (f->kind == READ) {
+        some_file();
+        return;
+    }
+    if (f->kind == CHECK) {
+        some_chain();
+        return;
+    }
+    some_frame();
+    if (f->kind == WRITE) {
+        kind = chance(92) ? (uint64_t)from_to(1, 3) : chance(50) ? (uint64_t)below(8) : 4294967296u + (uint64_t)below(4);
+        int depth = kind == 2 ? 8 : 1;
+        some_picture(SOURCE, 0, depth);
+        some_room(TARGET, 10 + needed(depth));
+        return;
+    }
+    some_picture(SOURCE, 0, f->depth);
+    if (f->kind == CHAINED) some_chain();
+    else some_element(ELEMENT, f->kind == WEIGHTED);
+    if (f->kind == HIT) {
+        some_element(OTHER, 0);
+        if (chance(30)) { /* the rest of the hit element's own cells: nothing is shared */
+            uint8_t *d = bytes_of(ELEMENT), *o = bytes_of(OTHER);
+            if (length[ELEMENT] >= 4 && d[0] >= 1 && d[0] <= 32 && d[1] >= 1 && d[1] <= 32 && length[ELEMENT] == descriptor_len(d[0], d[1], 0)) {
+                memcpy(o, d, length[OTHER] = length[ELEMENT]);
+                for (size_t i = 4; i < length[OTHER]; i++) o[i] = (uint8_t)~o[i];
+                clear_padding(o + 4, d[0], d[1]);
+            }
+        }
+    }
+    some_room(TARGET, needed(f->depth));
+    some_room(SCRATCH, needed(f->depth));
+}
+
+/* ---- the comparison */
+
+static long differing;
+
+static void say_call(const struct function *f, uint64_t seed, long round) {
+    printf("%s differs: seed %llu, round %ld: w %llu, h %llu", f->name, (unsigned long long)seed, round, (unsigned long long)w, (unsigned long long)h);
+    if (links) printf(", links %llu", (unsigned long long)links);
+    if (kind) printf(", kind %llu", (unsigned long long)kind);
+    for (int b = 0; b < BUFFERS; b++) {
+        if (!length[b]) continue;
+        printf("\n    %s, %lu bytes:", buffer_name[b], (unsigned long)length[b]);
+        if (b == TARGET || b == SCRATCH) continue;
+        for (size_t i = 0; i < length[b] && i < 40; i++) printf(" %d", memory[INDEPENDENT][b][AROUND + i]);
+        if (length[b] > 40) printf(" ..");
+    }
+    putchar('\n');
+}
+
+/* one call on both sides; gives the answer's number */
+static int compared(const struct function *f, uint64_t seed, long round) {
+    for (int b = 0; b < BUFFERS; b++) memcpy(memory[INDEPENDENT][b], memory[LIBRARY][b], length[b] + 2 * AROUND);
+    uint64_t theirs = library_answer(f), ours = independent_answer(f), third = ours;
+    if (f->kind == CHECK) {
+        double n = own_choices(lent(INDEPENDENT, ELEMENT), links, lent(INDEPENDENT, OTHER));
+        if (n < 3000) third = packed(own_check_chain_by_choices(lent(INDEPENDENT, ELEMENT), links, lent(INDEPENDENT, OTHER)));
+    }
+    int bad = theirs != ours || third != ours, at_buffer = -1;
+    size_t at = 0;
+    for (int b = 0; b < BUFFERS && at_buffer < 0; b++) {
+        if (memcmp(memory[LIBRARY][b], memory[INDEPENDENT][b], length[b] + 2 * AROUND) == 0) continue;
+        at_buffer = b;
+        while (memory[LIBRARY][b][at] == memory[INDEPENDENT][b][at]) at++;
+    }
+    if (bad || at_buffer >= 0) {
+        differing++;
+        if (differing <= 3) {
+            say_call(f, seed, round);
+            printf("    library %llx, independent %llx", (unsigned long long)theirs, (unsigned long long)ours);
+            if (third != ours) printf(", by choices %llx", (unsigned long long)third);
+            if (at_buffer >= 0)
+                printf("; %s at byte %ld: library %d, independent %d", buffer_name[at_buffer], (long)at - AROUND, memory[LIBRARY][at_buffer][at],
+                       memory[INDEPENDENT][at_buffer][at]);
+            putchar('\n');
+        }
+    }
+    return (int)(ours & 255);
+}
+
+/* ---- document 01's table, and its "also run", by hand */
+
+static long wrong, fixed;
+
+static void must(const char *name, int good) {
+    fixed++;
+    if (good) return;
+    wrong++;
+    printf("%s is wrong\n", name);
+}
+
+static void split(const char *name, uint32_t answer, uint32_t number, int dx, int dy) {
+    must(name, qik_number(answer) == number && qik_dx(answer) == dx && qik_dy(answer) == dy);
+}
+
+#define LENT(a) (a), sizeof(a)
+
+static void worked(void) {
+    static const uint8_t T[] = {3, 1, 2, 0, 0xe0}, L[] = {3, 1, 0, 0, 0xe0}, empty[] = {3, 1, 1, 0, 0};
+    uint8_t s[1], t[1], m[1], t3[3], many[10] = {0};
+
+    s[0] = 0x7c, must("P1", qik_erode1(7, 1, LENT(s), LENT(T), LENT(t)) == 0 && t[0] == 0x1c);
+    s[0] = 0x1c, must("P2", qik_dilate1(7, 1, LENT(s), LENT(T), LENT(t)) == 0 && t[0] == 0x7c);
+    s[0] = 0x60, must("P3", qik_open1(7, 1, LENT(s), LENT(T), LENT(t), LENT(m)) == 0 && t[0] == 0);
+    s[0] = 0xc0, must("P4", qik_open1(7, 1, LENT(s), LENT(T), LENT(t), LENT(m)) == 0 && t[0] == 0xc0);
+    s[0] = 0x06, must("P5 by T", qik_open1(7, 1, LENT(s), LENT(T), LENT(t), LENT(m)) == 0 && t[0] == 0);
+    s[0] = 0x06, must("P5 by L", qik_open1(7, 1, LENT(s), LENT(L), LENT(t), LENT(m)) == 0 && t[0] == 0x06);
+    s[0] = 0x6c, must("P6", qik_close1(7, 1, LENT(s), LENT(L), LENT(t), LENT(m)) == 0 && t[0] == 0x7e);
+    for (int v = 0; v < 128; v++) {
+        s[0] = (uint8_t)(2 * v);
+        must("P7, eroded", qik_erode1(7, 1, LENT(s), LENT(empty), LENT(t)) == 0 && t[0] == 0xfe);
+        must("P7, dilated", qik_dilate1(7, 1, LENT(s), LENT(empty), LENT(t)) == 0 && t[0] == 0);
+    }
+    static const uint8_t echoes[] = {10, 200, 30}, back[] = {2, 1, 1, 0, 0xc0}, on[] = {2, 1, 0, 0, 0x40};
+    must("P8", qik_erode8(3, 1, LENT(echoes), LENT(back), LENT(t3)) == 0 && t3[0] == 10 && t3[1] == 10 && t3[2] == 30);
+    must("P9", qik_dilate8(3, 1, LENT(echoes), LENT(on), LENT(t3)) == 0 && t3[0] == 0 && t3[1] == 10 && t3[2] == 200);
+    static const uint8_t middle[] = {0, 0x40, 0}, corner[] = {2, 2, 0, 0, 0x80, 0xc0};
+    must("P10", qik_dilate1(3, 3, LENT(middle), LENT(corner), LENT(t3)) == 0 && t3[0] == 0 && t3[1] == 0x40 && t3[2] == 0x60);
+    static const uint8_t lone[] = {1, 1, 0, 0, 0x80};
+    s[0] = 0x68, must("P11", qik_hit_or_miss(5, 1, LENT(s), LENT(lone), LENT(on), LENT(t)) == 0 && t[0] == 0x28);
+
+    static const uint8_t e12[] = {3, 1, 1, 0, 0xe0}, c12[] = {2, 1, 1, 0, 0xc0, 2, 1, 0, 0, 0xc0};
+    static const uint8_t c13[] = {2, 1, 0, 0, 0x40, 2, 1, 1, 0, 0x80};
+    static const uint8_t e14[] = {6, 1, 2, 0, 0xfc}, c14[] = {3, 1, 2, 0, 0x80, 6, 1, 0, 0, 0xfc};
+    static const uint8_t c15[] = {2, 1, 0, 0, 0xc0, 3, 1, 0, 0, 0xa0};
+    split("P12", qik_check_chain(LENT(e12), 2, LENT(c12)), 0, 0, 0);
+    split("P13", qik_check_chain(LENT(lone), 2, LENT(c13)), 7, 0, 0);
+    split("P14", qik_check_chain(LENT(e14), 2, LENT(c14)), 7, -1, 0);
+    split("P15", qik_check_chain(LENT(L), 2, LENT(c15)), 7, 3, 0);
+
+    static const uint8_t wide8[] = {8, 1, 0, 0, 0xff}, wide9[] = {9, 1, 0, 0, 0xff, 0x80};
+    split("a link 8 wide", qik_check_chain(LENT(wide8), 1, LENT(wide8)), 0, 0, 0);
+    split("a link 9 wide", qik_check_chain(LENT(wide9), 1, LENT(wide9)), 6, 0, 0);
+    static const uint8_t six[] = {1, 1, 0, 0, 128, 1, 1, 0, 0, 128, 1, 1, 0, 0, 128, 1, 1, 0, 0, 128, 1, 1, 0, 0, 128, 1, 1, 0, 0, 128};
+    split("5 links", qik_check_chain(LENT(lone), 5, six, 25), 0, 0, 0);
+    split("6 links", qik_check_chain(LENT(lone), 6, LENT(six)), 6, 0, 0);
+    split("no link", qik_check_chain(LENT(lone), 0, six, 0), 6, 0, 0);
+
+    static uint8_t frame[1025 * 257], out[1025 * 257];
+    must("W 1,024 and H 256", qik_erode8(1024, 256, frame, 1024 * 256, LENT(lone), LENT(out)) == 0);
+    must("W 1,024 and H 256, one bit", qik_erode1(1024, 256, frame, 128 * 256, LENT(lone), LENT(out)) == 0);
+    must("W 1,025", qik_erode8(1025, 256, frame, 1025 * 256, LENT(lone), LENT(out)) == 1);
+    must("H 257", qik_erode8(1024, 257, frame, 1024 * 257, LENT(lone), LENT(out)) == 1);
+    must("W 0", qik_erode8(0, 1, frame, 0, LENT(lone), LENT(out)) == 1);
+    must("W of 33 bits", qik_erode8(4294967296u + 1, 1, frame, 1, LENT(lone), LENT(out)) == 1);
+    frame[0] = 9, must("1 x 1", qik_erode8(1, 1, frame, 1, LENT(lone), LENT(out)) == 0 && out[0] == 9);
+    static const uint8_t ten[] = {1, 1, 0, 0, 0x80, 10}, loud[] = {250};
+    must("weight 10 on 250", qik_weighted_dilate(1, 1, LENT(loud), LENT(ten), LENT(t)) == 0 && t[0] == 255);
+
+    static const uint8_t stored[] = {69, 67, 72, 1, 0, 3, 5, 0, 1, 0, 0x90}; /* kind 3: 01101 turned over */
+    uint64_t r = qik_ech_read(LENT(stored), LENT(t));
+    must("kind 3 read", qik_read_number(r) == 0 && qik_read_kind(r) == 3 && qik_read_w(r) == 5 && qik_read_h(r) == 1 && t[0] == 0x68);
+    uint8_t again[11];
+    must("kind 3 written", qik_ech_write(3, 5, 1, LENT(t), LENT(again)) == 0 && memcmp(again, stored, sizeof again) == 0);
+    must("a file that is refused", qik_ech_read(many, sizeof many, LENT(t)) == 9);
+}
+
+/* the largest frame by the default element at both depths, and a chain of many paths: few, and slow */
+static void large(uint64_t seed) {
+    static const uint8_t trailing[] = {31, 1, 30, 0, 255, 255, 255, 254}, seven[] = {7, 7, 3, 3, 254, 254, 254, 254, 254, 254, 254};
+    for (int i = 0; i < FUNCTIONS; i++) {
+        const struct function *f = &functions[i];
+        for (int b = 0; b < BUFFERS; b++) fresh(b, 0);
+        if (f->kind == FLAT && f->way == 'd') {
+            w = 1024, h = 256;
+            do some_picture(SOURCE, 0, f->depth);
+            while (length[SOURCE] != row_len(f->depth, (size_t)w) * (size_t)h);
+            memcpy(bytes_of(ELEMENT), trailing, length[ELEMENT] = sizeof trailing);
+            fresh(TARGET, length[SOURCE] + 3);
+            compared(f, seed, -1);
+        }
+        if (f->kind == CHECK) { /* 31 x 31 by five of 7 x 7, and the same with one cell less */
+            links = 5;
+            for (int k = 0; k < 5; k++) memcpy(bytes_of(OTHER) + k * 11, seven, 11);
+            length[OTHER] = 55;
+            uint8_t *d = bytes_of(ELEMENT);
+            length[ELEMENT] = descriptor_len(31, 31, 0);
+            memset(d, 255, length[ELEMENT]);
+            d[0] = d[1] = 31, d[2] = d[3] = 15;
+            clear_padding(d + 4, 31, 31);
+            must("31 x 31 by five of 7 x 7", compared(f, seed, -1) == 0);
+            d[4 + 20 * 4] ^= 4;
+            must("31 x 31 less one by five of 7 x 7", compared(f, seed, -2) == 7);
+        }
+    }
+}
+
+int main(int argc, char **argv) {
+    uint64_t seed = argc > 1 ? strtoull(argv[1], 0, 10) : 1;
+    long rounds = argc > 2 ? strtol(argv[2], 0, 10) : 1000, unmet = 0;
+    printf("compare: seed %llu, %ld rounds of each of %d functions\n", (unsigned long long)seed, rounds, FUNCTIONS);
+    worked();
+    begin(seed, "large", 0);
+    large(seed);
+    printf("%-16s %ld checks, %ld wrong\n", "by hand", fixed, wrong);
+    for (int i = 0; i < FUNCTIONS; i++) {
+        const struct function *f = &functions[i];
+        long met[11] = {0}, before = differing;
+        for (long round = 0; round < rounds; round++) {
+            begin(seed, f->name, (uint64_t)round);
+            some_call(f);
+            met[compared(f, seed, round)]++;
+        }
+        printf("%-16s %ld calls, %ld differ; answers", f->name, rounds, differing - before);
+        for (int n = 0; n < 11; n++)
+            if (met[n]) printf(" %d: %ld", n, met[n]);
+        for (const char *c = f->numbers; *c && rounds >= 500; c++)
+            if (!met[*c - '0']) unmet++, printf(" (%c was not met)", *c);
+        putchar('\n');
+    }
+    printf("compare: %ld checks by hand, %ld wrong; %ld calls, %ld differ; %ld refusals not met\n", fixed, wrong, rounds * FUNCTIONS, differing, unmet);
+    return wrong || differing || unmet;
+}

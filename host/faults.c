@@ -1,0 +1,45 @@
+/* The library with a fault put in, to see that the comparison finds it: link with -Wl,--wrap=NAME for each function below. FAULT is one of document 01's
+ * "errors a good engineer makes here": 1, dilating without turning the element; 2, starting the result as a copy of the source; 3, turning the padding over with the
+ * rest of a row when complementing. */
+#include "qiksavlut.h"
+
+#define CALL                                                                                                                                           \
+    uint64_t w, uint64_t h, const uint8_t *source, size_t source_len, const uint8_t *element, size_t element_len, uint8_t *target, size_t target_len
+
+uint32_t __real_qik_dilate1(CALL);
+uint32_t __wrap_qik_dilate1(CALL);
+uint32_t __real_qik_dilate8(CALL);
+uint32_t __wrap_qik_dilate8(CALL);
+uint64_t __real_qik_ech_read(const uint8_t *file, size_t file_len, uint8_t *target, size_t target_len);
+uint64_t __wrap_qik_ech_read(const uint8_t *file, size_t file_len, uint8_t *target, size_t target_len);
+
+uint32_t __wrap_qik_dilate1(CALL) {
+    uint8_t about[256] = {0};
+    if (FAULT == 1 && __real_qik_dilate1(w, h, source, source_len, element, element_len, target, target_len) == QIK_DONE) {
+        size_t row = (element[0] + 7u) / 8;
+        about[0] = element[0], about[1] = element[1];
+        about[2] = (uint8_t)(element[0] - 1 - element[2]), about[3] = (uint8_t)(element[1] - 1 - element[3]);
+        for (int r = 0; r < element[1]; r++)
+            for (int c = 0; c < element[0]; c++) {
+                int q = element[1] - 1 - r, p = element[0] - 1 - c;
+                if (element[4 + (size_t)r * row + (size_t)(c / 8)] >> (7 - c % 8) & 1) about[4 + (size_t)q * row + (size_t)(p / 8)] |= (uint8_t)(128 >> p % 8);
+            }
+        element = about;
+    }
+    return __real_qik_dilate1(w, h, source, source_len, element, element_len, target, target_len);
+}
+
+uint32_t __wrap_qik_dilate8(CALL) {
+    uint32_t answer = __real_qik_dilate8(w, h, source, source_len, element, element_len, target, target_len);
+    for (size_t i = 0; FAULT == 2 && answer == QIK_DONE && i < source_len; i++)
+        if (source[i] > target[i]) target[i] = source[i];
+    return answer;
+}
+
+uint64_t __wrap_qik_ech_read(const uint8_t *file, size_t file_len, uint8_t *target, size_t target_len) {
+    uint64_t answer = __real_qik_ech_read(file, file_len, target, target_len);
+    uint32_t w = qik_read_w(answer);
+    for (uint32_t y = 1; FAULT == 3 && qik_read_kind(answer) == 3 && w % 8 != 0 && y <= qik_read_h(answer); y++)
+        target[y * ((w + 7) / 8) - 1] |= (uint8_t)(255 >> w % 8);
+    return answer;
+}

@@ -1,0 +1,184 @@
+/* Qiksavlut: the picture library of an ultrasonic level sensor, as a C program calls it.
+ *
+ * Pictures. A frame has w pings (columns, 1 to 1,024) and h range bins (rows, 1 to 256).
+ *   one-bit: each row takes (w + 7) / 8 bytes; the first ping is the highest bit of the row's first byte; the unused low bits of its last
+ *            byte are padding and are 0.
+ *   8-bit:   w * h bytes, row after row, 0 is no echo.
+ * A source has exactly the bytes of its picture. A target, a scratch or a work buffer has as many or more; its further bytes stay.
+ *
+ * Elements. A descriptor is: width and height (1 to 32 each), origin column, origin row, one byte each; then the cells, a one-bit picture
+ * of width by height; nothing after. A weighted descriptor goes on with width * height heights, two's complement, -127 to 127, and 0 where
+ * the cell is unset. A set cell is the offset (dx, dy) = (column - origin column, row - origin row).
+ *
+ * At the frame. A point beyond the frame counts as full when eroding and as empty when dilating.
+ *
+ * Answers. The number is QIK_DONE or the first refusal that holds, in the order of the comment at each function. A refusal changes no byte.
+ *
+ * Your one duty. The lent buffers of one call do not overlap, and each pointer has as many bytes as its length says. A pointer is never
+ * null, not even of a buffer of 0 bytes. All other input, whatever it is, gets an answer. */
+#ifndef QIKSAVLUT_H
+#define QIKSAVLUT_H
+
+#include <stddef.h>
+#include <stdint.h>
+
+#ifdef __cplusplus
+extern "C" {
+#endif
+
+enum qik_refusal {
+    QIK_DONE = 0,
+    QIK_SIZE = 1,    /* w or h outside its range */
+    QIK_SOURCE = 2,  /* the source has not exactly the length that is needed */
+    QIK_PAD = 3,     /* a padding bit of a one-bit source is 1 */
+    QIK_SHAPE = 4,   /* a descriptor breaks a rule, or bytes follow the last link */
+    QIK_OVERLAP = 5, /* hit and miss share an offset */
+    QIK_CHAIN = 6,   /* the number of links is not 1 to 5, or a link is above 8 x 8 */
+    QIK_SPLIT = 7,   /* chain and element differ; the first offset at fault comes with it */
+    QIK_ROOM = 8,    /* a target, scratch or work buffer is too short */
+    QIK_FORM = 9,    /* a file under 10 bytes, or a wrong mark, version or kind */
+    QIK_JOB = 10     /* of the program echtext alone; no function here gives it */
+};
+
+/* Taking answers apart: qik_number, qik_dx and qik_dy any answer of 32 bits; the others the answer of qik_ech_read. */
+
+/* The refusal number of an answer; of a plain answer it is the answer itself. */
+static inline uint32_t qik_number(uint32_t answer) { return answer & 255u; }
+
+/* The dx of a SPLIT, -35 to 35; 0 of any other answer. */
+static inline int qik_dx(uint32_t answer) { return (int)((answer >> 8 & 255u) ^ 128u) - 128; }
+
+/* The dy of a SPLIT, -35 to 35; 0 of any other answer. */
+static inline int qik_dy(uint32_t answer) { return (int)((answer >> 16 & 255u) ^ 128u) - 128; }
+
+/* The refusal number of a read. */
+static inline uint32_t qik_read_number(uint64_t answer) { return (uint32_t)(answer & 255u); }
+
+/* The kind of the file that was read: 1, 2 or 3; 0 of a refusal. */
+static inline uint32_t qik_read_kind(uint64_t answer) { return (uint32_t)(answer >> 8 & 255u); }
+
+/* The pings of the picture that was read; 0 of a refusal. */
+static inline uint32_t qik_read_w(uint64_t answer) { return (uint32_t)(answer >> 16 & 65535u); }
+
+/* The bins of the picture that was read; 0 of a refusal. */
+static inline uint32_t qik_read_h(uint64_t answer) { return (uint32_t)(answer >> 32 & 65535u); }
+
+/* One-bit erosion: a point of target is set when source is set at point + offset for every offset that stays in the frame.
+ * source: a one-bit picture, exactly. element: a descriptor, not weighted. target: room for the picture.
+ * Answer: SIZE, SOURCE, PAD, SHAPE, ROOM in this order, or DONE with the picture in target. */
+uint32_t qik_erode1(uint64_t w, uint64_t h, const uint8_t *source, size_t source_len, const uint8_t *element, size_t element_len,
+                    uint8_t *target, size_t target_len);
+
+/* One-bit dilation: a point of target is set when source is set at point - offset for some offset that stays in the frame.
+ * Buffers and answer are those of qik_erode1. */
+uint32_t qik_dilate1(uint64_t w, uint64_t h, const uint8_t *source, size_t source_len, const uint8_t *element, size_t element_len,
+                     uint8_t *target, size_t target_len);
+
+/* 8-bit erosion: the least of source at point + offset over the offsets that stay in the frame; 255 where there is none.
+ * source: an 8-bit picture, exactly. element: a descriptor, not weighted. target: room for the picture.
+ * Answer: SIZE, SOURCE, SHAPE, ROOM in this order, or DONE with the picture in target. */
+uint32_t qik_erode8(uint64_t w, uint64_t h, const uint8_t *source, size_t source_len, const uint8_t *element, size_t element_len,
+                    uint8_t *target, size_t target_len);
+
+/* 8-bit dilation: the greatest of source at point - offset over the offsets that stay in the frame; 0 where there is none.
+ * Buffers and answer are those of qik_erode8. */
+uint32_t qik_dilate8(uint64_t w, uint64_t h, const uint8_t *source, size_t source_len, const uint8_t *element, size_t element_len,
+                     uint8_t *target, size_t target_len);
+
+/* One-bit opening: erosion, then dilation by the same element. What is narrower than the element goes.
+ * Buffers as for qik_erode1; scratch: room for the picture too, and afterwards it holds the eroded picture.
+ * Answer: SIZE, SOURCE, PAD, SHAPE, ROOM in this order, or DONE with the picture in target. */
+uint32_t qik_open1(uint64_t w, uint64_t h, const uint8_t *source, size_t source_len, const uint8_t *element, size_t element_len,
+                   uint8_t *target, size_t target_len, uint8_t *scratch, size_t scratch_len);
+
+/* One-bit closing: dilation, then erosion by the same element. Gaps narrower than the element are filled.
+ * Buffers and answer are those of qik_open1; scratch afterwards holds the dilated picture. */
+uint32_t qik_close1(uint64_t w, uint64_t h, const uint8_t *source, size_t source_len, const uint8_t *element, size_t element_len,
+                    uint8_t *target, size_t target_len, uint8_t *scratch, size_t scratch_len);
+
+/* 8-bit opening: erosion, then dilation by the same element.
+ * Buffers as for qik_erode8; scratch: room for the picture too, and afterwards it holds the eroded picture.
+ * Answer: SIZE, SOURCE, SHAPE, ROOM in this order, or DONE with the picture in target. */
+uint32_t qik_open8(uint64_t w, uint64_t h, const uint8_t *source, size_t source_len, const uint8_t *element, size_t element_len,
+                   uint8_t *target, size_t target_len, uint8_t *scratch, size_t scratch_len);
+
+/* 8-bit closing: dilation, then erosion by the same element.
+ * Buffers and answer are those of qik_open8; scratch afterwards holds the dilated picture. */
+uint32_t qik_close8(uint64_t w, uint64_t h, const uint8_t *source, size_t source_len, const uint8_t *element, size_t element_len,
+                    uint8_t *target, size_t target_len, uint8_t *scratch, size_t scratch_len);
+
+/* Hit-or-miss of a one-bit picture: a point is set when source eroded by hit has it and source's complement, within the frame, eroded by
+ * miss has it. source: a one-bit picture, exactly. hit, miss: descriptors, not weighted, with no offset in common. target: room for the picture.
+ * Answer: SIZE, SOURCE, PAD, SHAPE (of hit, then of miss), OVERLAP, ROOM in this order, or DONE with the picture in target. */
+uint32_t qik_hit_or_miss(uint64_t w, uint64_t h, const uint8_t *source, size_t source_len, const uint8_t *hit, size_t hit_len,
+                         const uint8_t *miss, size_t miss_len, uint8_t *target, size_t target_len);
+
+/* Weighted erosion of an 8-bit picture: the least of source at point + offset, less the offset's height, over the offsets that stay in the
+ * frame, held to 0..255; 255 where there is none. source: an 8-bit picture, exactly. element: a weighted descriptor. target: room for the picture.
+ * Answer: SIZE, SOURCE, SHAPE, ROOM in this order, or DONE with the picture in target. */
+uint32_t qik_weighted_erode(uint64_t w, uint64_t h, const uint8_t *source, size_t source_len, const uint8_t *element,
+                            size_t element_len, uint8_t *target, size_t target_len);
+
+/* Weighted dilation of an 8-bit picture: the greatest of source at point - offset, and the offset's height, over the offsets that stay in
+ * the frame, held to 0..255; 0 where there is none. Buffers and answer are those of qik_weighted_erode. */
+uint32_t qik_weighted_dilate(uint64_t w, uint64_t h, const uint8_t *source, size_t source_len, const uint8_t *element,
+                             size_t element_len, uint8_t *target, size_t target_len);
+
+/* Weighted opening: weighted erosion, then weighted dilation by the same element.
+ * Buffers as for qik_weighted_erode; scratch: room for the picture too, and afterwards it holds the eroded picture.
+ * Answer: SIZE, SOURCE, SHAPE, ROOM in this order, or DONE with the picture in target. */
+uint32_t qik_weighted_open(uint64_t w, uint64_t h, const uint8_t *source, size_t source_len, const uint8_t *element, size_t element_len,
+                           uint8_t *target, size_t target_len, uint8_t *scratch, size_t scratch_len);
+
+/* Weighted closing: weighted dilation, then weighted erosion by the same element.
+ * Buffers and answer are those of qik_weighted_open; scratch afterwards holds the dilated picture. */
+uint32_t qik_weighted_close(uint64_t w, uint64_t h, const uint8_t *source, size_t source_len, const uint8_t *element,
+                            size_t element_len, uint8_t *target, size_t target_len, uint8_t *scratch, size_t scratch_len);
+
+/* Whether the chain does what the element does on every picture in every frame.
+ * element: a descriptor, not weighted. chain: the descriptors of the links, one after another, each at most 8 x 8; links: their number, 1 to 5.
+ * Answer: SHAPE of the element; CHAIN for the number; of each link in turn SHAPE, then CHAIN; SHAPE where bytes follow the last link; SPLIT; or DONE.
+ * The answer is packed, number + 256 * (dx mod 256) + 65536 * (dy mod 256): qik_number, qik_dx and qik_dy take it apart. Of a SPLIT dx and dy are the
+ * first offset at fault, lesser dy first, then lesser dx; of any other answer they are 0, so that it is the plain number. */
+uint32_t qik_check_chain(const uint8_t *element, size_t element_len, uint64_t links, const uint8_t *chain, size_t chain_len);
+
+/* One-bit erosion by a chain: erodes by each link in turn, which gives the erosion by the element.
+ * source: a one-bit picture, exactly. element, links, chain: as for qik_check_chain. first, second: room for the picture each, even for one link.
+ * Answer, packed as that of qik_check_chain: SIZE, SOURCE, PAD, then what the check refuses, ROOM, or DONE. Results 1, 3 and 5 are in
+ * first, 2 and 4 in second: the last is in first where links is odd and in second where it is even. With one link second is untouched. */
+uint32_t qik_chain_erode1(uint64_t w, uint64_t h, const uint8_t *source, size_t source_len, const uint8_t *element, size_t element_len,
+                          uint64_t links, const uint8_t *chain, size_t chain_len, uint8_t *first, size_t first_len, uint8_t *second,
+                          size_t second_len);
+
+/* One-bit dilation by a chain. Buffers and answer are those of qik_chain_erode1. */
+uint32_t qik_chain_dilate1(uint64_t w, uint64_t h, const uint8_t *source, size_t source_len, const uint8_t *element, size_t element_len,
+                           uint64_t links, const uint8_t *chain, size_t chain_len, uint8_t *first, size_t first_len, uint8_t *second,
+                           size_t second_len);
+
+/* 8-bit erosion by a chain. Buffers and answer are those of qik_chain_erode1, but for source, an 8-bit picture, and PAD, which is not given. */
+uint32_t qik_chain_erode8(uint64_t w, uint64_t h, const uint8_t *source, size_t source_len, const uint8_t *element, size_t element_len,
+                          uint64_t links, const uint8_t *chain, size_t chain_len, uint8_t *first, size_t first_len, uint8_t *second,
+                          size_t second_len);
+
+/* 8-bit dilation by a chain. Buffers and answer are those of qik_chain_erode8. */
+uint32_t qik_chain_dilate8(uint64_t w, uint64_t h, const uint8_t *source, size_t source_len, const uint8_t *element, size_t element_len,
+                           uint64_t links, const uint8_t *chain, size_t chain_len, uint8_t *first, size_t first_len, uint8_t *second,
+                           size_t second_len);
+
+/* Reads an ECH file, version 1. file: the whole file. target: room for its picture.
+ * Answer: FORM, SIZE, SOURCE (the body's length), PAD, ROOM in this order, or DONE with the picture in target; a picture of kind 3 is there the
+ * ordinary one-bit picture. It is packed, number + 256 * kind + 65536 * w + 4294967296 * h, and the plain number where the file is refused:
+ * qik_read_number, qik_read_kind, qik_read_w and qik_read_h take it apart. */
+uint64_t qik_ech_read(const uint8_t *file, size_t file_len, uint8_t *target, size_t target_len);
+
+/* Writes an ECH file, version 1, of kind 1 (one-bit), 2 (8-bit) or 3 (one-bit, stored turned over).
+ * source: the picture, exactly; of kind 3 the ordinary one-bit picture. target: room for 10 bytes and the picture.
+ * Answer: FORM for another kind, then SIZE, SOURCE, PAD, ROOM in this order, or DONE with the file in target. */
+uint32_t qik_ech_write(uint64_t kind, uint64_t w, uint64_t h, const uint8_t *source, size_t source_len, uint8_t *target,
+                       size_t target_len);
+
+#ifdef __cplusplus
+}
+#endif
+
+#endif
