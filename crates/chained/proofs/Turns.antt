@@ -11,20 +11,19 @@ use lib.ListN.{length, take, drop}
 use lib.Seq.{take-append-seam, drop-append-seam}
 use Rattle.answer.specs.Lent.{unlessRefused}
 use Rattle.picture.specs.declared.Depth.{Depth}
-use Rattle.picture.specs.Frame.{Frame, top, sizedFrame, pictureBytes, frame}
+use Rattle.picture.specs.Frame.{top, sizedFrame, pictureBytes, frame}
 use Rattle.picture.specs.Points.{valueAt}
 use Rattle.picture.specs.Bytes.{Picture, bytesOf, written, paddingClear}
 use Rattle.picture.proofs.Sizes.{sized-tells}
 use Rattle.picture.proofs.Points.{written-same}
 use Rattle.picture.proofs.Back.{bytes-long, bytes-value, bytes-clear}
-use Rattle.element.specs.Shape.{Shape}
 use Rattle.element.proofs.Words.{Bytes}
 use Rattle.element.specs.Descriptor.{wellMade, shapeIn, descriptorLength}
 use Rattle.morphology.specs.Operations.{flat}
 use Rattle.morphology.specs.Order.{Alike, Bounded}
-use Rattle.morphology.proofs.Order.{erode-alike, dilate-alike}
 use Rattle.rows.specs.declared.Task.{Task}
 use Rattle.rows.specs.Fold.{sweptBy}
+use Rattle.operation.proofs.Given.{swept-alike}
 use Rattle.rows.specs.Task.{depthIf}
 use Rattle.operation.specs.Tests.{flatTests}
 use Rattle.chain.specs.Reading.{firstOf, restOf}
@@ -68,10 +67,6 @@ pub record Seen (depth : Depth) (w h : ℕ) (s : List ℕ) (R : Picture) : Type 
   pub clear : paddingClear depth s w h ≡ true
   pub shown : Alike (frame w h) (valueAt depth s w) R
 
-swept-alike : (grows : Bool) (top : ℕ) (F : Frame) (B : Shape) (A C : Picture) → Alike F A C → (x y : ℕ) → sweptBy grows flat top F B A x y ≡ sweptBy grows flat top F B C x y
-swept-alike true top F B A C a x y = dilate-alike flat F B A C a (record { x = x; y = y })
-swept-alike false top F B A C a x y = erode-alike flat F B A C a (record { x = x; y = y }) top
-
 module _ (depth : Depth) (w h : ℕ) where
   pub own-bytes : (R : Picture) (t : List ℕ) (n : ℕ) → n ≡ pictureBytes depth w h → take n (written depth R w h t) ≡ bytesOf depth R w h
   unfolding written
@@ -104,7 +99,7 @@ hop-done : (k : Task) (w h : ℕ) (s d t : List ℕ) (R : Picture) → sizedFram
 unfolding hopped unlessRefused
 hop-done k w h s d t R z seen made room =
     simp (z, eq-eqb (length s) (pictureBytes (depthIf (k .packed)) w h) (seen .long), seen .clear, made, le-ltb (length t) (pictureBytes (depthIf (k .packed)) w h) room)
-    (written-same (depthIf (k .packed)) _ _ w h t (λ x y lx ly. swept-alike (k .grows) (top (depthIf (k .packed))) (frame w h) (shapeIn d) _ R (seen .shown) x y))
+    (written-same (depthIf (k .packed)) _ _ w h t (λ x y lx ly. swept-alike (k .grows) flat (top (depthIf (k .packed))) (frame w h) (shapeIn d) _ R (seen .shown) x y))
 
 -- ---- what the buffers hold
 

@@ -312,7 +312,7 @@ module _ (weighs : Bool) (depth : Depth) (w h : ℕ) (d s : List ℕ) (one : dep
   twice-one grows other = within-one _ (once-bounded other (onceBy weighs depth grows w h d A) (once-bounded grows A bounded))
 
 -- ---- a second operation, from the picture that the first has written
-swept-alike : (grows : Bool) (change : Change) (top : ℕ) (F : Frame) (B : Shape) (A C : Picture) → Alike F A C → (x y : ℕ) → sweptBy grows change top F B A x y ≡ sweptBy grows change top F B C x y
+pub swept-alike : (grows : Bool) (change : Change) (top : ℕ) (F : Frame) (B : Shape) (A C : Picture) → Alike F A C → (x y : ℕ) → sweptBy grows change top F B A x y ≡ sweptBy grows change top F B C x y
 swept-alike true change top F B A C a x y = dilate-alike change F B A C a (record { x = x; y = y })
 swept-alike false change top F B A C a x y = erode-alike change F B A C a (record { x = x; y = y }) top
 
