@@ -1,39 +1,40 @@
-/* The finder of the independent implementation over a grid of sizes, buffers and numbers of links: what it prints is crates/found/stdout, to which the
- * proved program `found` is held. */
+/* The finder of the independent implementation: runs those lines of crates/cases/stdin that ask the finder, and prints of each what the proved
+ * program `cases` must print. C cannot call the library's own finder, which lends a part of a buffer. */
 #include "independent.h"
 
 #include <stdio.h>
+#include <stdlib.h>
 #include <string.h>
 
 static uint8_t first[1100], second[1100];
 
-static void links(size_t a, size_t b, int depth, uint64_t w, uint64_t h) {
-    static const uint64_t numbers[] = {0, 1, 2, 3, 4, 5, 6, 4294967297u};
-    for (size_t i = 0; i < sizeof numbers / sizeof *numbers; i++) {
-        struct lent t = own_last_picture((struct lent){first, a}, (struct lent){second, b}, depth, w, h, numbers[i]);
-        printf(" %lu", (unsigned long)t.len);
-        if (t.len) printf("/%d", t.at[0]);
+/* A buffer of a line: its length, a count, and so many bytes; the bytes after them are like the last. */
+static struct lent buffer(char **at, uint8_t *bytes, size_t most) {
+    size_t n = strtoull(*at, at, 10), m = strtoull(*at, at, 10);
+    uint8_t last = 0;
+    for (size_t i = 0; i < m || i < n; i++) {
+        if (i < m) last = (uint8_t)strtoull(*at, at, 10);
+        if (i < most) bytes[i] = last;
     }
+    return (struct lent){bytes, n < most ? n : most};
 }
 
 int main(void) {
-    static const size_t lengths[][2] = {{1100, 1100}, {8, 9}, {9, 8}, {6, 5}, {0, 1100}, {1100, 0}};
-    static const uint64_t sizes[][2] = {
-        {0, 1},    {1, 0},    {1, 1},     {7, 1},          {8, 1},          {9, 1},
-        {9, 3},    {64, 1},   {1, 256},   {1, 257},        {1024, 1},       {1025, 1},
-        {65536, 1}, {4294967297u, 1}, {1, 4294967297u}, {9223372036854775809u, 2}, {18446744073709551615u, 18446744073709551615u},
-    };
-    memset(first, 1, sizeof first);
-    memset(second, 2, sizeof second);
-    for (size_t i = 0; i < sizeof lengths / sizeof *lengths; i++) {
-        printf("%lu and %lu bytes\n", (unsigned long)lengths[i][0], (unsigned long)lengths[i][1]);
-        for (size_t k = 0; k < sizeof sizes / sizeof *sizes; k++) {
-            printf("%llu x %llu, one-bit:", (unsigned long long)sizes[k][0], (unsigned long long)sizes[k][1]);
-            links(lengths[i][0], lengths[i][1], 1, sizes[k][0], sizes[k][1]);
-            printf("; 8-bit:");
-            links(lengths[i][0], lengths[i][1], 8, sizes[k][0], sizes[k][1]);
-            putchar('\n');
+    static char line[65536];
+    while (fgets(line, sizeof line, stdin)) {
+        if (line[0] != 'f') continue;
+        char *at = line + 1;
+        int depth = (int)strtoull(at, &at, 10);
+        uint64_t w = strtoull(at, &at, 10), h = strtoull(at, &at, 10), k = strtoull(at, &at, 10);
+        struct lent a = buffer(&at, first, sizeof first), b = buffer(&at, second, sizeof second);
+        struct lent t = own_last_picture(a, b, depth, w, h, k);
+        printf("last");
+        for (size_t i = 0, n; i < t.len; i += n) {
+            for (n = 1; i + n < t.len && t.at[i + n] == t.at[i]; n++) {}
+            if (n > 1) printf(" %lu*%d", (unsigned long)n, t.at[i]);
+            else printf(" %d", t.at[i]);
         }
+        putchar('\n');
     }
     return 0;
 }

@@ -1,3 +1,4 @@
+pub mod Variants
 pub mod Differences
 pub mod OneToOne
 pub mod Order

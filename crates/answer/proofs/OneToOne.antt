@@ -7,21 +7,22 @@ use borrow.Author.Tests.{ltb-true, ltb-false}
 use lib.Dec.{ltb, eqb}
 use lib.IntN.{ℤ, pos, negsuc, subℕ}
 use Rattle.answer.specs.declared.Answer.{Answer}
-use Rattle.answer.specs.declared.Answer.the-variants.{Done, Size, Source, Pad, Shape, Overlap, Chain, Split, Room, Form, Job}
+use Rattle.answer.specs.declared.Answer.the-variants.{Done, Size, Source, Pad, Shape}
+use Rattle.answer.specs.declared.Answer.the-variants.{Overlap, Chain, Split, Room, Form, Job}
 use Rattle.answer.specs.declared.Told.{Told}
 use Rattle.answer.specs.Answer.{told, plain, centre}
 
 -- the byte that stands for a coordinate
 abbrev byteOf : ℤ → ℕ
-byteOf (pos n) = n + 128
+byteOf (pos n) = n + centre
 byteOf (negsuc n) = 127 - n
 
 byte-back : (x : ℕ) → byteOf (subℕ x centre) ≡ x
-byte-back x = by (ltb x 128) refl
+byte-back x = by (ltb x centre) refl
   where
-    by : (b : Bool) → ltb x 128 ≡ b → byteOf (cond b (negsuc (128 - suc x)) (pos (x - 128))) ≡ x
-    by true e = let h = ltb-true x 128 e in omega arith
-    by false e = let h = ltb-false x 128 e in omega arith
+    by : (b : Bool) → ltb x centre ≡ b → byteOf (cond b (negsuc (centre - suc x)) (pos (x - centre))) ≡ x
+    by true e = let h = ltb-true x centre e in omega arith
+    by false e = let h = ltb-false x centre e in omega arith
 
 -- the answer that is told so
 abbrev answerOf : Told → Answer

@@ -10,14 +10,17 @@ use Rattle.answer.specs.declared.Told.{Told}
 use Rattle.answer.specs.Answer.{plain, isDone}
 use Rattle.answer.specs.Refuse.{Test, refuse, FirstHolds, here, later, NoneHolds, end, next}
 
--- no test holds, and the answer is what follows; or some test is the first to hold, and the answer is its number
+-- no test holds, and the answer is what follows;
+-- or some test is the first to hold, and the answer is its number
 abbrev Outcome : List Test → Told → Type 0
-Outcome ts after = (NoneHolds ts × (refuse ts after ≡ after)) ⊎ ((n : ℕ) × (FirstHolds ts n × (refuse ts after ≡ plain n)))
+Outcome ts after =
+    (NoneHolds ts × (refuse ts after ≡ after)) ⊎ ((n : ℕ) × (FirstHolds ts n × (refuse ts after ≡ plain n)))
 
 pub refused : (ts : List Test) (after : Told) → Outcome ts after
 refused [] after = inl (end, refl)
 refused ((true, n) ∷ ts) after = inr (n, (here, refl))
-refused ((false, m) ∷ ts) after = ⊎-elim (λ o. inl (next (o .0), o .1)) (λ o. inr (o .0, (later (o .1 .0), o .1 .1))) (refused ts after)
+refused ((false, m) ∷ ts) after =
+    ⊎-elim (λ o. inl (next (o .0), o .1)) (λ o. inr (o .0, (later (o .1 .0), o .1 .1))) (refused ts after)
 
 pub number-of : (m n : ℕ) → plain m ≡ plain n → m ≡ n
 unfolding plain
@@ -34,7 +37,8 @@ none-given after (next f) = none-given after f
 -- a number is given exactly when its condition holds and none before it does
 given-first : (ts : List Test) (n : ℕ) → 0 < n → refuse ts (plain 0) ≡ plain n → FirstHolds ts n
 given-first [] n some e = let z = number-of 0 n e in absurd (omega arith)
-given-first ((true, m) ∷ ts) n some e = subst (λ (k : ℕ). FirstHolds ((true, m) ∷ ts) k) (number-of m n e) here
+given-first ((true, m) ∷ ts) n some e =
+    subst (λ (k : ℕ). FirstHolds ((true, m) ∷ ts) k) (number-of m n e) here
 given-first ((false, m) ∷ ts) n some e = later (given-first ts n some e)
 
 pub exactly : (ts : List Test) (n : ℕ) → 0 < n → (refuse ts (plain 0) ≡ plain n) ↔ FirstHolds ts n
@@ -59,7 +63,8 @@ NoneOf [] = Unit {0}
 NoneOf (t ∷ ts) = (t .0 ≡ false) × NoneOf ts
 
 -- where the answer is done no test held, and what follows is done too
-pub passed-all : (ts : List Test) (after : Told) → Numbered ts → isDone (refuse ts after) ≡ true → NoneOf ts × (isDone after ≡ true)
+pub passed-all : (ts : List Test) (after : Told) → Numbered ts → isDone (refuse ts after) ≡ true
+    → NoneOf ts × (isDone after ≡ true)
 unfolding plain
 passed-all [] after some e = (tt, e)
 passed-all ((true, n) ∷ ts) after some e = let z = eqb-true n 0 e in absurd (omega (arith, some .0))
@@ -70,4 +75,5 @@ none-of ts some e = passed-all ts (plain 0) some e .0
 
 pub none-refuses : (ts : List Test) (after : Told) → NoneOf ts → refuse ts after ≡ after
 none-refuses [] after none = refl
-none-refuses ((b, n) ∷ ts) after none = ap (λ b. cond b (plain n) (refuse ts after)) (none .0) ∙ none-refuses ts after (none .1)
+none-refuses ((b, n) ∷ ts) after none =
+    ap (λ b. cond b (plain n) (refuse ts after)) (none .0) ∙ none-refuses ts after (none .1)

@@ -4,7 +4,8 @@ use mathlib.Core.Bool.{Bool}
 use lib.Dec.{eqb}
 use lib.IntN.{pos, subℕ}
 use Rattle.answer.specs.declared.Answer.{Answer}
-use Rattle.answer.specs.declared.Answer.the-variants.{Done, Size, Source, Pad, Shape, Overlap, Chain, Split, Room, Form, Job}
+use Rattle.answer.specs.declared.Answer.the-variants.{Done, Size, Source, Pad, Shape}
+use Rattle.answer.specs.declared.Answer.the-variants.{Overlap, Chain, Split, Room, Form, Job}
 use Rattle.answer.specs.declared.Told.{Told}
 
 -- a coordinate d of an offset is held as the byte d + centre, so that no number is negative

@@ -2,8 +2,11 @@
 ghost use mathlib.Core.Path.{_≡_};
 ghost use Prim.Native.Nat.{_^_, _<_};
 ghost use lib.IntN.{subℕ};
-ghost use Rattle.answer.specs.Answer.{told, plain, isDone, centre};
+ghost use Rattle.answer.specs.Answer.{told, isDone, centre};
 ghost use Rattle.answer.specs.Packed.{modByte, packed};
+
+// A coordinate of an offset is held with this added, so that no number is negative: where 0 stands.
+pub const CENTRE: usize = 128;
 
 pub enum Answer {
     Done,
@@ -13,7 +16,7 @@ pub enum Answer {
     Shape,
     Overlap,
     Chain,
-    // The offset at fault, each coordinate 128 more than it is: bytes in the order of the offsets.
+    // The offset at fault, each coordinate with CENTRE added: bytes in the order of the offsets.
     Split(u8, u8),
     Room,
     Form,
@@ -27,42 +30,59 @@ pub struct Told {
     pub dy: i32,
 }
 
+// The bytes of a split.
+struct Held {
+    x: u8,
+    y: u8,
+}
+
 // The coordinate that a byte of a split stands for.
 fn signed(x: u8) -> i32
     ensures { λ r. ⌜ r ≡ subℕ x centre ⌝ }
 {
-    (x as i32) - 128
+    (x as i32) - (CENTRE as i32)
 }
 
-fn numbered(number: u32) -> Told
-    ensures { λ r. ⌜ r ≡ plain number ⌝ }
+// The number of an answer.
+fn number_of(a: Answer) -> u32
+    ensures { λ r. ⌜ (r ≡ told a .number) × (r < 2 ^ 8) ⌝ }
 {
-    Told {
-        number,
-        dx: 0,
-        dy: 0,
+    match a {
+        Answer::Done => 0,
+        Answer::Size => 1,
+        Answer::Source => 2,
+        Answer::Pad => 3,
+        Answer::Shape => 4,
+        Answer::Overlap => 5,
+        Answer::Chain => 6,
+        Answer::Split(_, _) => 7,
+        Answer::Room => 8,
+        Answer::Form => 9,
+        Answer::Job => 10,
+    }
+}
+
+// The offset of an answer, each coordinate as a split holds it: 0, 0 but for a split.
+fn offset_of(a: Answer) -> Held
+    ensures { λ r. ⌜ (subℕ (r .x) centre ≡ told a .dx) × (subℕ (r .y) centre ≡ told a .dy) ⌝ }
+{
+    match a {
+        Answer::Split(x, y) => Held { x, y },
+        _ => Held {
+            x: CENTRE as u8,
+            y: CENTRE as u8,
+        },
     }
 }
 
 pub fn tell(a: Answer) -> Told
     ensures { λ r. ⌜ r ≡ told a ⌝ }
 {
-    match a {
-        Answer::Done => numbered(0),
-        Answer::Size => numbered(1),
-        Answer::Source => numbered(2),
-        Answer::Pad => numbered(3),
-        Answer::Shape => numbered(4),
-        Answer::Overlap => numbered(5),
-        Answer::Chain => numbered(6),
-        Answer::Split(x, y) => Told {
-            number: 7,
-            dx: signed(x),
-            dy: signed(y),
-        },
-        Answer::Room => numbered(8),
-        Answer::Form => numbered(9),
-        Answer::Job => numbered(10),
+    let at = offset_of(a);
+    Told {
+        number: number_of(a),
+        dx: signed(at.x),
+        dy: signed(at.y),
     }
 }
 
@@ -78,10 +98,10 @@ pub fn is_done(a: Answer) -> bool
 fn mod_byte(x: u8) -> u32
     ensures { λ r. ⌜ (r ≡ modByte (subℕ x centre)) × (r < 2 ^ 8) ⌝ }
 {
-    if 128 <= x {
-        (x - 128) as u32
+    if (CENTRE as u8) <= x {
+        (x - (CENTRE as u8)) as u32
     } else {
-        (x as u32) + 128
+        (x as u32) + 0x100 - (CENTRE as u32)
     }
 }
 
@@ -89,17 +109,8 @@ fn mod_byte(x: u8) -> u32
 pub fn pack(a: Answer) -> u32
     ensures { λ r. ⌜ r ≡ packed (told a) ⌝ }
 {
-    match a {
-        Answer::Done => 0,
-        Answer::Size => 1,
-        Answer::Source => 2,
-        Answer::Pad => 3,
-        Answer::Shape => 4,
-        Answer::Overlap => 5,
-        Answer::Chain => 6,
-        Answer::Split(x, y) => 7 + mod_byte(x) * 0x100 + mod_byte(y) * 0x10000,
-        Answer::Room => 8,
-        Answer::Form => 9,
-        Answer::Job => 10,
-    }
+    let at = offset_of(a);
+    let x = mod_byte(at.x);
+    let y = mod_byte(at.y);
+    number_of(a) + x * 0x100 + y * 0x10000
 }

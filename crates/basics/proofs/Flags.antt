@@ -54,8 +54,11 @@ on-shl a c k = by (decLe c k)
 
     by : Dec (c ≤ k) → on (a * 2 ^ c) k ≡ (leb c k && on a (k - c))
     by (yes h) =
-        ap (λ n. on (a * 2 ^ c) n) (there h) ∙ ap (λ x. eqb x 1) (bit-shl a c (k - c)) ∙ ap (λ t. t && on a (k - c)) (sym (le-leb c k h))
-    by (no n) = ap (λ x. eqb x 1) (bit-shl-low a c k (omega arith)) ∙ ap (λ t. t && on a (k - c)) (sym (lt-leb c k (omega arith)))
+        ap (λ n. on (a * 2 ^ c) n) (there h) ∙ ap (λ x. eqb x 1) (bit-shl a c (k - c))
+        ∙ ap (λ t. t && on a (k - c)) (sym (le-leb c k h))
+    by (no n) =
+        ap (λ x. eqb x 1) (bit-shl-low a c k (omega arith))
+        ∙ ap (λ t. t && on a (k - c)) (sym (lt-leb c k (omega arith)))
 
 pub on-mod : (n w k : ℕ) → k < w → on (n % 2 ^ w) k ≡ on n k
 on-mod n w k h = ap (λ x. eqb x 1) (bit-mod n w k h)
@@ -72,4 +75,7 @@ on-ones n k = by (decLt k n)
     by (yes h) =
         ap (λ m. on m k) (sym (sub-zero (2 ^ n - 1))) ∙ ap (λ x. eqb x 1) (bit-not n 0 k (pow-pos n) h)
         ∙ one (bit 0 k) (on-none k) (omega arith) ∙ sym (lt-ltb k n h)
-    by (no h) = ap (λ x. eqb (x % 2) 1) (div-eq-of-lt (lt-of-lt-of-le (ones-lt n) (pow-mono {i = n} {j = k} (omega arith)))) ∙ sym (le-ltb k n (omega arith))
+    by (no h) =
+        ap (λ x. eqb (x % 2) 1)
+        (div-eq-of-lt (lt-of-lt-of-le (ones-lt n) (pow-mono {i = n} {j = k} (omega arith))))
+        ∙ sym (le-ltb k n (omega arith))

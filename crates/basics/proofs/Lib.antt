@@ -1,7 +1,10 @@
 pub mod Lists
 pub mod Joined
 pub mod Bits
+pub mod Truth
 pub mod Tests
+pub mod Any
+pub mod Zip
 pub mod Settled
-pub mod Parts
+pub mod SliceParts
 pub mod Flags

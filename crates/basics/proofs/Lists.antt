@@ -6,7 +6,8 @@ use mathlib.Core.Logic.{⊎-elim}
 use native.Mathlib.Omega.{arith}
 use native.Mathlib.Numerals.{add-one}
 use native.Mathlib.Nat.{sub-zero, le-refl, not-suc-le-zero, le-of-suc-le-suc, eq-or-lt-of-le}
-use lib.ListN.{length, getD, set, take, drop, length-take, length-drop, replicate, length-append, List·getD-append, drop-of-length-le}
+use lib.ListN.{length, getD, set, take, drop, length-take, length-drop}
+use lib.ListN.{replicate, length-append, List·getD-append, drop-of-length-le}
 use lib.Seq.{take-all, set-at, drop-cons, getD-append-seam, ext-getD}
 use Rattle.basics.specs.Lists.{firsts}
 
@@ -20,12 +21,15 @@ unfolding firsts
 getD-firsts f zero i h = absurd (not-suc-le-zero h)
 getD-firsts f (suc n) i h =
     ⊎-elim
-    (λ e. ap (λ j. getD (firsts f n ++ (f n ∷ [])) j 0) (e ∙ sym (length-firsts f n)) ∙ getD-append-seam (firsts f n) (f n) [] 0 ∙ ap f (sym e))
-    (λ l. List·getD-append (firsts f n) (f n ∷ []) 0 i (subst (λ m. i < m) (sym (length-firsts f n)) l) ∙ getD-firsts f n i l)
+    (λ e. ap (λ j. getD (firsts f n ++ (f n ∷ [])) j 0) (e ∙ sym (length-firsts f n))
+    ∙ getD-append-seam (firsts f n) (f n) [] 0 ∙ ap f (sym e))
+    (λ l. List·getD-append (firsts f n) (f n ∷ []) 0 i (subst (λ m. i < m) (sym (length-firsts f n)) l)
+    ∙ getD-firsts f n i l)
     (eq-or-lt-of-le (le-of-suc-le-suc h))
 
 -- a list is what its elements are
-pub list-is : (f : ℕ → ℕ) (n : ℕ) (l : List ℕ) → length l ≡ n → ((i : ℕ) → i < n → getD l i 0 ≡ f i) → l ≡ firsts f n
+pub list-is : (f : ℕ → ℕ) (n : ℕ) (l : List ℕ) → length l ≡ n → ((i : ℕ) → i < n → getD l i 0 ≡ f i)
+    → l ≡ firsts f n
 list-is f n l e each =
     ext-getD 0 l (firsts f n) (e ∙ sym (length-firsts f n))
     (λ i h. let k : i < n = subst (λ m. i < m) e h in each i k ∙ sym (getD-firsts f n i k))
@@ -39,7 +43,8 @@ module _ (f : ℕ → ℕ) (t : List ℕ) where
   unfolding firsts
   over-none = refl
 
-  pub over-more : (u : List ℕ) (n v : ℕ) → n < length t → u ≡ firsts f n ++ drop n t → v ≡ f n → set u n v ≡ firsts f (n + 1) ++ drop (n + 1) t
+  pub over-more : (u : List ℕ) (n v : ℕ) → n < length t → u ≡ firsts f n ++ drop n t → v ≡ f n
+      → set u n v ≡ firsts f (n + 1) ++ drop (n + 1) t
   unfolding firsts
   over-more u n v h e k =
       ap₂ (λ l x. set l n x) (e ∙ ap (λ l. firsts f n ++ l) (drop-cons t n 0 h)) k
@@ -50,7 +55,9 @@ module _ (f : ℕ → ℕ) (t : List ℕ) where
   -- filled to the end
   pub over-whole : (u : List ℕ) (n m : ℕ) → u ≡ firsts f n ++ drop n t → n ≡ m → length t ≡ m → u ≡ firsts f m
   over-whole u n m e q l =
-      e ∙ ap (λ k. firsts f k ++ drop k t) q ∙ ap (λ r. firsts f m ++ r) (drop-of-length-le t (subst (λ k. k ≤ m) (sym l) (le-refl m))) ∙ append-nil (firsts f m)
+      e ∙ ap (λ k. firsts f k ++ drop k t) q
+      ∙ ap (λ r. firsts f m ++ r) (drop-of-length-le t (subst (λ k. k ≤ m) (sym l) (le-refl m)))
+      ∙ append-nil (firsts f m)
 
 -- ---- an array of m places filled from the front
 module _ (f : ℕ → ℕ) (m z : ℕ) where
@@ -58,7 +65,8 @@ module _ (f : ℕ → ℕ) (m z : ℕ) where
   unfolding firsts
   fill-none = ap (λ n. replicate n z) (sym (sub-zero m))
 
-  pub fill-more : (n : ℕ) → n < m → set (firsts f n ++ replicate (m - n) z) n (f n) ≡ firsts f (n + 1) ++ replicate (m - (n + 1)) z
+  pub fill-more : (n : ℕ) → n < m
+      → set (firsts f n ++ replicate (m - n) z) n (f n) ≡ firsts f (n + 1) ++ replicate (m - (n + 1)) z
   unfolding firsts
   fill-more n h =
       ap (λ k. set (firsts f n ++ replicate k z) n (f n)) (more n m h)
@@ -74,9 +82,12 @@ module _ (f : ℕ → ℕ) (m z : ℕ) where
   fill-store n l v h e e' = ap₂ (λ t x. set t n x) e e' ∙ fill-more n h
 
 -- a part of n elements from the place a on
-pub part-length : {X : Type 0} (l : List X) (a n : ℕ) → a + n ≤ length l → length (take (a + n - a) (drop a l)) ≡ n
+pub part-length : {X : Type 0} (l : List X) (a n : ℕ) → a + n ≤ length l
+    → length (take (a + n - a) (drop a l)) ≡ n
 part-length l a n h = simp (length-take, length-drop) (omega arith)
 
 -- all that follows the place a
 pub tail-is : {X : Type 0} (l : List X) (a : ℕ) → take (length l - a) (drop a l) ≡ drop a l
-tail-is l a = take-all (length l - a) (drop a l) (subst (λ n. n ≤ length l - a) (sym (length-drop a l)) (le-refl (length l - a)))
+tail-is l a =
+    take-all (length l - a) (drop a l)
+    (subst (λ n. n ≤ length l - a) (sym (length-drop a l)) (le-refl (length l - a)))

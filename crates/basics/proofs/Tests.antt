@@ -1,4 +1,5 @@
--- A test over all numbers below n, as a loop makes it: nothing tested, one more that passes, one that stops it, all tested.
+-- A test over all numbers below n, as a loop makes it:
+-- nothing tested, one more that passes, one that stops it, all tested.
 use Prim.Native.Nat.{ℕ, zero, suc, _+_, _-_, _<_}
 use mathlib.Core.Path.{_≡_, refl, sym, ap, ap₂, _∙_}
 use mathlib.Core.Bool.{Bool, true, false, cond, _&&_, and-false}
@@ -14,7 +15,8 @@ both true b e = (refl, e)
 both false b e = let z : _≡_ {A = ℕ} 0 1 = cc in absurd (omega arith)
 
 -- a choice of equals, where each is chosen
-pub cond-same : {A : Type 0} (b : Bool) (x x' y y' : A) → (b ≡ true → x ≡ x') → (b ≡ false → y ≡ y') → cond b x y ≡ cond b x' y'
+pub cond-same : {A : Type 0} (b : Bool) (x x' y y' : A) → (b ≡ true → x ≡ x') → (b ≡ false → y ≡ y')
+    → cond b x y ≡ cond b x' y'
 cond-same true x x' y y' e f = e refl
 cond-same false x x' y y' e f = f refl
 
@@ -41,7 +43,8 @@ module _ (p : ℕ → Bool) where
 
   pub all-stop : (i n : ℕ) → i < n → p i ≡ false → all p n ≡ false
   unfolding all
-  all-stop i n h q = ap (all p) (split i n h) ∙ later (n - suc i) (suc i) (ap (λ b. all p i && b) q ∙ and-false (all p i))
+  all-stop i n h q =
+      ap (all p) (split i n h) ∙ later (n - suc i) (suc i) (ap (λ b. all p i && b) q ∙ and-false (all p i))
     where
       split : (i n : ℕ) → i < n → n ≡ (n - suc i) + suc i
       split i n h = omega arith
@@ -54,7 +57,8 @@ module _ (p : ℕ → Bool) where
   unfolding all
   all-at zero e i h = absurd (not-suc-le-zero h)
   all-at (suc n) e i h =
-      ⊎-elim (λ q. ap p q ∙ both (all p n) (p n) e .1) (λ l. all-at n (both (all p n) (p n) e .0) i l) (eq-or-lt-of-le (le-of-suc-le-suc h))
+      ⊎-elim (λ q. ap p q ∙ both (all p n) (p n) e .1)
+      (λ l. all-at n (both (all p n) (p n) e .0) i l) (eq-or-lt-of-le (le-of-suc-le-suc h))
 
   pub all-of : (n : ℕ) → ((i : ℕ) → i < n → p i ≡ true) → all p n ≡ true
   unfolding all

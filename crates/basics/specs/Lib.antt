@@ -1,3 +1,5 @@
 pub mod Lists
 pub mod Bits
 pub mod Tests
+pub mod Zip
+pub mod Bytes

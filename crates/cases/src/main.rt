@@ -1,22 +1,37 @@
-// Runs the jobs in its input, and prints of each the answer and every buffer that was lent to be written. Nothing that it prints stands here.
-//
-// The input is text. A line that begins with # is printed as it is. A job begins with a letter (e, d, o, c, h: erode, dilate, open, close,
-// hit-or-miss; E, D, O, C: the weighted operations), then numbers, which anything but a digit parts: the depth (1 or 8), W, H, and five buffers: source, element (or hit element),
-// miss element, target, scratch. A buffer is its length n, a count m, and m bytes; the bytes after the first m are like the last of these, or 0
-// where m is 0. A call takes of the five what it needs, and every job prints the answer's number, the target and the scratch: the
-// bytes in order, n*b for n bytes b in a row.
+// Runs the jobs of its input, a line each, and prints of each what it answers and every buffer that was lent.
+// tools/cases makes the lines, says what their letters and numbers mean, and makes what must be printed.
 use answer::Answer;
+use judge::Padding;
 use libc::STDIN_FILENO;
 use libc::STDOUT_FILENO;
 use picture::Depth;
+use picture::Face;
 ghost use mathlib.Core.Path.{_≡_};
-ghost use Prim.Native.Nat.{_+_, _≤_, _<_, max};
+ghost use Prim.Native.Nat.{_≤_, _<_};
 ghost use lib.ListN.{length};
+ghost use Rattle.io.specs.Counts.{Counts};
 
-// A number of the input, and where it ends.
+// A number of a line, and where the next one is.
 struct Found {
     value: usize,
-    end: usize,
+    next: usize,
+}
+
+// A job as its line begins, and where its buffers are.
+struct Head {
+    letter: u8,
+    depth: usize,
+    w: usize,
+    h: usize,
+    links: usize,
+    next: usize,
+}
+
+// As much as the largest picture of 8 bits, and two bytes more.
+fn room() -> [u8; 262146]
+    ensures { λ r. ⌜ 262146 ≡ length r ⌝ }
+{
+    [0; 262146]
 }
 
 fn text(s: &[u8]) {
@@ -27,119 +42,77 @@ fn number(n: usize) {
     io::print_decimal(STDOUT_FILENO, n as u64);
 }
 
-fn size(x: u8) -> usize {
-    x as usize
+// A number with one more digit; of one beyond 64 bits nothing is promised.
+fn more(v: usize, digit: u8) -> usize {
+    std::num::wrapping_add_usize(v % 1844674407370955162 * 10, (digit % 16) as usize)
 }
 
-fn is_digit(b: u8) -> bool {
-    if b < 48 {
-        return false;
-    }
-    b < 58
-}
-
-fn low_byte(n: usize) -> u8 {
-    (n % 256) as u8
-}
-
-// The first digit from the place `at` on.
-fn digit_from(input: &[u8], at: usize) -> usize
-    requires { ⌜ at ≤ length (now input) ⌝ }
-    ensures { λ r. ⌜ (at ≤ r) × (r ≤ length (now (input .entry))) ⌝ }
-{
+// The number at a place: its digits, and the byte below them that ends it. 0 where the line has ended.
+fn number_at(line: &[u8], at: usize) -> Found {
     let mut i = at;
-    while i < input.len() {
-        if is_digit(input[i]) {
-            return i;
-        }
-        i += 1;
-    }
-    i
-}
-
-// A number with one more digit; held where it grows beyond all use.
-fn more(v: usize, b: u8) -> usize
-    requires { ⌜ v < 10000000 ⌝ }
-    ensures { λ r. ⌜ r < 10000000 ⌝ }
-{
-    let n = v * 10 + size(b) % 16;
-    if n < 10000000 { n } else { v }
-}
-
-fn number_at(input: &[u8], at: usize) -> Found
-    requires { ⌜ at ≤ length (now input) ⌝ }
-    ensures { λ r. ⌜ (at ≤ r .end) × (r .end ≤ length (now (input .entry))) ⌝ }
-{
-    let mut i = digit_from(input, at);
     let mut v = 0;
-    while i < input.len() {
-        if is_digit(input[i]) {
-            v = more(v, input[i]);
-            i += 1;
-        } else {
-            return Found { value: v, end: i };
+    while i < line.len() {
+        let b = line[i];
+        i += 1;
+        if b < b'0' {
+            return Found { value: v, next: i };
         }
+        v = more(v, b);
     }
-    Found { value: v, end: i }
+    Found { value: v, next: i }
 }
 
-// The next number, or the last one again.
-fn next_or(input: &[u8], given: bool, last: Found) -> Found
-    requires { ⌜ last .end ≤ length (now input) ⌝ }
-    ensures { λ r. ⌜ (last .end ≤ r .end) × (r .end ≤ length (now (input .entry))) ⌝ }
+// A buffer at the start of b, as far as there is room for it: its length, and where the next one is.
+fn buffer_at(line: &[u8], at: usize, b: &mut [u8]) -> Found
+    ensures { λ r. ⌜ Counts (r .value) (now (b .exit)) ⌝ }
 {
-    if given {
-        return number_at(input, last.end);
-    }
-    last
-}
-
-// The bytes of a buffer that follow its length and count; only so many as it has room for.
-fn bytes_at(input: &[u8], at: usize, count: usize, b: &mut [u8]) -> usize
-    requires { ⌜ at ≤ length (now input) ⌝ }
-    ensures { λ r. ⌜ (at ≤ r) × (r ≤ length (now (input .entry))) ⌝ }
-{
-    let mut last = Found { value: 0, end: at };
+    let n = number_at(line, at);
+    let m = number_at(line, n.next);
+    let mut last = Found {
+        value: 0,
+        next: m.next,
+    };
     let mut i = 0;
     while i < b.len() {
-        last = next_or(input, i < count, last);
-        b[i] = low_byte(last.value);
+        if i == n.value {
+            return Found {
+                value: i,
+                next: last.next,
+            };
+        }
+        if i < m.value {
+            last = number_at(line, last.next);
+        }
+        b[i] = (last.value % 256) as u8;
         i += 1;
     }
-    last.end
-}
-
-fn lesser(a: usize, b: usize) -> usize
-    ensures { λ r. ⌜ (r ≤ a) × (r ≤ b) ⌝ }
-{
-    if a < b { a } else { b }
-}
-
-// A buffer of the input into b: its length, and where it ends.
-fn buffer_at(input: &[u8], at: usize, b: &mut [u8]) -> Found
-    requires { ⌜ at ≤ length (now input) ⌝ }
-    ensures { λ r. ⌜ (r .value ≤ length (now (b .exit))) × ((at ≤ r .end) × (r .end ≤ length (now (input .entry)))) ⌝ }
-{
-    let n = number_at(input, at);
-    let m = number_at(input, n.end);
-    let len = lesser(n.value, b.len());
-    let end = bytes_at(input, m.end, m.value, &mut b[..len]);
-    Found { value: len, end }
-}
-
-// How many bytes from i on are the same.
-fn run_at(b: &[u8], i: usize) -> usize
-    requires { ⌜ i < length (now b) ⌝ }
-    ensures { λ r. ⌜ (1 ≤ r) × (i + r ≤ length (now (b .entry))) ⌝ }
-{
-    let mut n = 1;
-    while i + n < b.len() {
-        if b[i + n] != b[i] {
-            return n;
-        }
-        n += 1;
+    Found {
+        value: i,
+        next: last.next,
     }
-    n
+}
+
+// A letter and a space, then four numbers.
+fn head_of(letter: u8, line: &[u8]) -> Head {
+    let d = number_at(line, 2);
+    let w = number_at(line, d.next);
+    let h = number_at(line, w.next);
+    let k = number_at(line, h.next);
+    Head {
+        letter,
+        depth: d.value,
+        w: w.value,
+        h: h.value,
+        links: k.value,
+        next: k.next,
+    }
+}
+
+fn depth_of(bits: usize) -> Depth {
+    if bits == 1 {
+        return Depth::OneBit;
+    }
+    Depth::EightBit
 }
 
 fn show_run(n: usize, b: u8) {
@@ -148,46 +121,94 @@ fn show_run(n: usize, b: u8) {
         number(n);
         text(b"*");
     }
-    number(size(b));
+    number(b as usize);
+}
+
+// The bytes that are like the one at `from` end before i.
+fn ends(b: &[u8], from: usize, i: usize) -> bool
+    requires { ⌜ from < length (now b) ⌝ }
+{
+    if i < b.len() {
+        return b[i] != b[from];
+    }
+    true
 }
 
 fn show(name: &[u8], b: &[u8]) {
     text(name);
+    let mut from = 0;
     let mut i = 0;
     while i < b.len() {
-        let n = run_at(b, i);
-        show_run(n, b[i]);
-        i += n;
+        i += 1;
+        if ends(b, from, i) {
+            show_run(i - from, b[from]);
+            from = i;
+        }
     }
     text(b"\n");
 }
 
-fn depth_of(n: usize) -> Depth {
-    if n == 1 {
-        Depth::OneBit
-    } else {
-        Depth::EightBit
+// A coordinate of a split, which is held with 128 added.
+fn coordinate(x: u8) {
+    let n = x as usize;
+    if n < 128 {
+        text(b" -");
+        number(128 - n);
+        return;
     }
+    text(b" ");
+    number(n - 128);
 }
 
 fn answered(a: Answer) {
     let t = answer::tell(a);
     text(b"answer ");
     number(t.number as usize);
+    if let Answer::Split(x, y) = a {
+        coordinate(x);
+        coordinate(y);
+    }
     text(b"\n");
 }
 
-fn call(
-    letter: u8,
+// A copy as it is or turned over, whatever the padding.
+fn copied(
     depth: Depth,
+    face: Face,
     w: usize,
     h: usize,
     source: &[u8],
-    element: &[u8],
-    miss: &[u8],
+    target: &mut [u8],
+) -> Answer {
+    let a = judge::refusal(
+        Padding::Free,
+        depth,
+        w,
+        h,
+        source,
+        Answer::Done,
+        0,
+        target.len(),
+    );
+    if answer::is_done(a) {
+        copies::copy_picture(depth, face, source, target, w, h);
+    }
+    a
+}
+
+fn call(
+    head: Head,
     target: &mut [u8],
     scratch: &mut [u8],
+    source: &[u8],
+    element: &[u8],
+    other: &[u8],
 ) -> Answer {
+    let letter = head.letter;
+    let depth = depth_of(head.depth);
+    let w = head.w;
+    let h = head.h;
+    let k = head.links;
     match letter {
         b'e' => flat::erode(depth, w, h, source, element, target),
         b'd' => flat::dilate(depth, w, h, source, element, target),
@@ -197,121 +218,108 @@ fn call(
         b'D' => weighted::dilate(w, h, source, element, target),
         b'O' => weighted::open(w, h, source, element, target, scratch),
         b'C' => weighted::close(w, h, source, element, target, scratch),
-        _ => hit::hit_or_miss(w, h, source, element, miss, target),
+        b'h' => hit::hit_or_miss(w, h, source, element, other, target),
+        b'a' => copied(depth, Face::AsIs, w, h, source, target),
+        b't' => copied(depth, Face::TurnedOver, w, h, source, target),
+        b'l' => chained::erode(depth, w, h, source, element, k, other, target, scratch),
+        b'm' => chained::dilate(depth, w, h, source, element, k, other, target, scratch),
+        _ => chain::check_chain(element, k, other),
     }
 }
 
 // The call, and what came of it.
 fn run(
-    letter: u8,
-    depth: Depth,
-    w: usize,
-    h: usize,
-    source: &[u8],
-    element: &[u8],
-    miss: &[u8],
+    head: Head,
     target: &mut [u8],
     scratch: &mut [u8],
+    source: &[u8],
+    element: &[u8],
+    other: &[u8],
 ) {
-    let a = call(letter, depth, w, h, source, element, miss, target, scratch);
-    answered(a);
-    show(b"target", &target[..]);
-    show(b"scratch", &scratch[..]);
+    answered(call(head, target, scratch, source, element, other));
+    show(b"target", target);
+    show(b"scratch", scratch);
 }
 
-// One job: its numbers, its buffers, and the call.
-fn job(letter: u8, input: &[u8], at: usize) -> usize
-    requires { ⌜ at ≤ length (now input) ⌝ }
-    ensures { λ r. ⌜ r ≤ length (now (input .entry)) ⌝ }
-{
-    let mut source = io::large_buffer();
+// What a call is given, and the call.
+fn given(head: Head, line: &[u8], at: usize, target: &mut [u8], scratch: &mut [u8]) {
+    let mut source = room();
     let mut element = io::buffer();
-    let mut miss = io::buffer();
-    let mut target = io::large_buffer();
-    let mut scratch = io::large_buffer();
-    let d = number_at(input, at);
-    let w = number_at(input, d.end);
-    let h = number_at(input, w.end);
-    let s = buffer_at(input, h.end, &mut source);
-    let e = buffer_at(input, s.end, &mut element);
-    let m = buffer_at(input, e.end, &mut miss);
-    let t = buffer_at(input, m.end, &mut target);
-    let u = buffer_at(input, t.end, &mut scratch);
+    let mut other = io::buffer();
+    let s = buffer_at(line, at, &mut source);
+    let e = buffer_at(line, s.next, &mut element);
+    let o = buffer_at(line, e.next, &mut other);
     run(
-        letter,
-        depth_of(d.value),
-        w.value,
-        h.value,
+        head,
+        target,
+        scratch,
         &source[..s.value],
         &element[..e.value],
-        &miss[..m.value],
+        &other[..o.value],
+    );
+}
+
+// A job, and the buffers that it lends.
+fn job(letter: u8, line: &[u8]) {
+    let head = head_of(letter, line);
+    let mut target = room();
+    let mut scratch = room();
+    let t = buffer_at(line, head.next, &mut target);
+    let u = buffer_at(line, t.next, &mut scratch);
+    if letter == b'f' {
+        let depth = depth_of(head.depth);
+        show(
+            b"last",
+            chained::last_picture(
+                &target[..t.value],
+                &scratch[..u.value],
+                depth,
+                head.w,
+                head.h,
+                head.links,
+            ),
+        );
+        return;
+    }
+    given(
+        head,
+        line,
+        u.next,
         &mut target[..t.value],
         &mut scratch[..u.value],
     );
-    u.end
 }
 
 // Where a line ends: after its line feed.
 fn line_end(input: &[u8], at: usize) -> usize
-    requires { ⌜ at ≤ length (now input) ⌝ }
-    ensures { λ r. ⌜ (at ≤ r) × (r ≤ length (now (input .entry))) ⌝ }
+    requires { ⌜ at < length (now input) ⌝ }
+    ensures { λ r. ⌜ (at < r) × (r ≤ length (now (input .entry))) ⌝ }
 {
     let mut i = at;
     while i < input.len() {
-        if input[i] == b'\n' {
-            return i + 1;
-        }
         i += 1;
+        if input[i - 1] == b'\n' {
+            return i;
+        }
     }
     i
 }
 
-fn starts_job(b: u8) -> bool {
-    match b {
-        b'e' => true,
-        b'd' => true,
-        b'o' => true,
-        b'c' => true,
-        b'h' => true,
-        b'E' => true,
-        b'D' => true,
-        b'O' => true,
-        b'C' => true,
-        _ => false,
-    }
-}
-
-fn greater(a: usize, b: usize) -> usize
-    ensures { λ r. ⌜ r ≡ max a b ⌝ }
-{
-    if a < b { b } else { a }
-}
-
-// A line, a job, or a byte that is neither.
-fn step(input: &[u8], at: usize) -> usize
-    requires { ⌜ at < length (now input) ⌝ }
-    ensures { λ r. ⌜ (at < r) × (r ≤ length (now (input .entry))) ⌝ }
-{
-    if input[at] == b'#' {
-        let end = line_end(input, at + 1);
-        text(&input[at..end]);
-        return end;
-    }
-    if starts_job(input[at]) {
-        return greater(job(input[at], input, at + 1), at + 1);
-    }
-    at + 1
-}
-
-fn steps(input: &[u8]) {
+fn lines(input: &[u8]) {
     let mut at = 0;
     while at < input.len() {
-        at = step(input, at);
+        let end = line_end(input, at);
+        if input[at] == b'#' {
+            text(&input[at..end]);
+        } else {
+            job(input[at], &input[at..end]);
+        }
+        at = end;
     }
 }
 
 fn main() {
-    let mut input = io::large_buffer();
+    let mut input = room();
     let n = io::read_full(STDIN_FILENO, &mut input);
-    steps(&input[..n]);
+    lines(&input[..n]);
 }

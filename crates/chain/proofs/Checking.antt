@@ -13,21 +13,24 @@ use lib.Seq.{getD-drop}
 use Rattle.basics.proofs.Tests.{both}
 use Rattle.answer.specs.declared.Told.{Told}
 use Rattle.answer.specs.declared.Answer.the-variants.{Chain}
-use Rattle.answer.specs.Answer.{told, plain}
+use Rattle.answer.specs.Answer.{told, plain, isDone}
 use Rattle.answer.specs.Refuse.{Test, refuse, FirstHolds, here, later}
 use Rattle.answer.proofs.Order.{Numbered}
+use Rattle.answer.proofs.Lent.{all-done}
 use Rattle.element.specs.declared.Element.{Element}
 use Rattle.element.specs.Descriptor.{mostCells, wideOf, highOf, wellMade, shapeIn, cellAt, descriptorLength}
 use Rattle.element.specs.Record.{elementOf, shapeOf}
-use Rattle.element.proofs.Words.{Bytes}
-use Rattle.element.proofs.Made.{cells-tell, made-cells}
+use Rattle.basics.specs.Bytes.{Bytes}
+use Rattle.element.proofs.WellMade.{cells-tell, made-cells}
 use Rattle.element.proofs.Cells.{cell-same}
 use Rattle.morphology.specs.Chain.{Fits, AllFit, Chained, mostLinkCells, mostLinks}
 use Rattle.morphology.specs.Check.{checkOf}
 use Rattle.morphology.proofs.Trim.{trim, trim-same, check-trim}
-use Rattle.reach.specs.Boards.{shapesOf}
+use Rattle.reach.specs.Steps.Links.{shapesOf}
 use Rattle.chain.specs.declared.Links.{Links}
-use Rattle.chain.specs.Reading.{firstOf, restOf, counted, small, linkTests, chainTests, checkTests, linksIn, elementsIn}
+use Rattle.chain.specs.Reading.{firstOf, restOf, counted, small}
+use Rattle.chain.specs.Reading.{linkTests, chainTests, checkTests, linksIn}
+use Rattle.chain.specs.Steps.Records.{elementsIn}
 use Rattle.chain.proofs.Reading.{none-after, some-after, Promised}
 
 -- ---- the links' refusals
@@ -38,7 +41,8 @@ numbered zero d = (lit≤ tt, tt)
 numbered (suc k) d = (lit≤ tt, (lit≤ tt, numbered k (restOf d)))
 
 -- the number 0 is that of no refusal
-zero-none : (ts : List Test) → Numbered ts → eqb (refuse ts (plain 0) .number) 0 ≡ true → refuse ts (plain 0) ≡ plain 0
+zero-none : (ts : List Test) → Numbered ts → eqb (refuse ts (plain 0) .number) 0 ≡ true
+    → refuse ts (plain 0) ≡ plain 0
 unfolding plain
 zero-none [] some e = refl
 zero-none ((true, m) ∷ ts) some e = let z = eqb-true m 0 e in absurd (omega (arith, some .0))
@@ -60,13 +64,18 @@ made-fits d n e w h =
     let t = cells-tell d (made-cells d e) in
     record { few-columns = w; few-rows = h; origin-column-in = t .column; origin-row-in = t .row }
 
-links-fit : (k : ℕ) (d : List ℕ) → refuse (linkTests k d) (plain 0) ≡ plain 0 → AllFit mostLinkCells (linksIn k d)
+links-fit : (k : ℕ) (d : List ℕ) → refuse (linkTests k d) (plain 0) ≡ plain 0
+    → AllFit mostLinkCells (linksIn k d)
 unfolding linkTests linksIn
 links-fit zero d e = tt
 links-fit (suc k) d e =
-    let p = passed-here (wellMade (firstOf d)) (small (wideOf (firstOf d)) (highOf (firstOf d))) (linkTests k (restOf d)) e in
-    let q = both (leb (wideOf (firstOf d)) mostLinkCells) (leb (highOf (firstOf d)) mostLinkCells) (p .1 .0) in
-    (made-fits (firstOf d) mostLinkCells (p .0) (leb-true _ _ (q .0)) (leb-true _ _ (q .1)), links-fit k (restOf d) (p .1 .1))
+    let p = passed-here (wellMade (firstOf d))
+    (small (wideOf (firstOf d)) (highOf (firstOf d))) (linkTests k (restOf d)) e in
+    let q = both (leb (wideOf (firstOf d)) mostLinkCells)
+    (leb (highOf (firstOf d)) mostLinkCells) (p .1 .0) in (
+      made-fits (firstOf d) mostLinkCells (p .0) (leb-true _ _ (q .0)) (leb-true _ _ (q .1)),
+      links-fit k (restOf d) (p .1 .1),
+    )
 
 links-long : (k : ℕ) (d : List ℕ) → length (linksIn k d) ≡ k
 unfolding linksIn
@@ -80,7 +89,8 @@ pub some-links : (k : ℕ) → counted k ≡ true → 1 ≤ k
 some-links k right = leb-true 1 k (both (leb 1 k) (leb k mostLinks) right .0)
 
 -- where nothing is refused, the element and the chain are within the limits
-pub well-chained : (element chain : List ℕ) (k : ℕ) → refuse (checkTests element k chain) (plain 0) ≡ plain 0 → Chained (shapeIn element) (linksIn k chain)
+pub well-chained : (element chain : List ℕ) (k : ℕ) → refuse (checkTests element k chain) (plain 0) ≡ plain 0
+    → Chained (shapeIn element) (linksIn k chain)
 unfolding checkTests chainTests
 well-chained element chain k e =
     let p = passed-here (wellMade element) (counted k) (linkTests k chain) e in
@@ -95,7 +105,12 @@ well-chained element chain k e =
 -- the records that are read have the same sizes and origins
 record-fits : (d : List ℕ) (n : ℕ) → Fits n (shapeIn d) → Fits n (shapeOf (elementOf d))
 unfolding shapeIn shapeOf elementOf
-record-fits d n f = record { few-columns = f .few-columns; few-rows = f .few-rows; origin-column-in = f .origin-column-in; origin-row-in = f .origin-row-in }
+record-fits d n f = record {
+  few-columns = f .few-columns;
+  few-rows = f .few-rows;
+  origin-column-in = f .origin-column-in;
+  origin-row-in = f .origin-row-in;
+}
 
 records-fit : (k : ℕ) (d : List ℕ) (n : ℕ) → AllFit n (linksIn k d) → AllFit n (shapesOf (elementsIn k d))
 unfolding linksIn elementsIn
@@ -107,7 +122,8 @@ unfolding linksIn elementsIn
 records-long zero d = refl
 records-long (suc k) d = ap suc (records-long k (restOf d))
 
-records-chained : (element chain : List ℕ) (k : ℕ) → Chained (shapeIn element) (linksIn k chain) → Chained (shapeOf (elementOf element)) (shapesOf (elementsIn k chain))
+records-chained : (element chain : List ℕ) (k : ℕ) → Chained (shapeIn element) (linksIn k chain)
+    → Chained (shapeOf (elementOf element)) (shapesOf (elementsIn k chain))
 records-chained element chain k C =
     record {
       element = record-fits element mostCells (C .element);
@@ -124,29 +140,35 @@ taken-le (suc n) [] i = omega arith
 taken-le (suc n) (x ∷ d) zero = le-refl x
 taken-le (suc n) (x ∷ d) (suc i) = taken-le n d i
 
-first-bytes : (d : List ℕ) → Bytes d → Bytes (firstOf d)
+pub first-bytes : (d : List ℕ) → Bytes d → Bytes (firstOf d)
 unfolding firstOf
 first-bytes d b i = omega (arith, taken-le (descriptorLength d) d i, b i)
 
-rest-bytes : (d : List ℕ) → Bytes d → Bytes (restOf d)
+pub rest-bytes : (d : List ℕ) → Bytes d → Bytes (restOf d)
 unfolding restOf
-rest-bytes d b i = subst (λ n. n < 256) (sym (getD-drop (descriptorLength d) d i 0)) (b (descriptorLength d + i))
+rest-bytes d b i =
+    subst (λ n. n < 256) (sym (getD-drop (descriptorLength d) d i 0)) (b (descriptorLength d + i))
 
 shape-trim : (d : List ℕ) → Bytes d → wellMade d ≡ true → trim (shapeOf (elementOf d)) ≡ trim (shapeIn d)
 unfolding shapeIn shapeOf elementOf
-shape-trim d b e = trim-same (shapeOf (elementOf d)) (cellAt d) (λ c r hc hr. cell-same d b (made-cells d e) c r hc hr)
+shape-trim d b e =
+    trim-same (shapeOf (elementOf d)) (cellAt d) (λ c r hc hr. cell-same d b (made-cells d e) c r hc hr)
 
-links-trim : (k : ℕ) (d : List ℕ) → Bytes d → refuse (linkTests k d) (plain 0) ≡ plain 0 → map trim (shapesOf (elementsIn k d)) ≡ map trim (linksIn k d)
+links-trim : (k : ℕ) (d : List ℕ) → Bytes d → refuse (linkTests k d) (plain 0) ≡ plain 0
+    → map trim (shapesOf (elementsIn k d)) ≡ map trim (linksIn k d)
 unfolding linkTests elementsIn linksIn
 links-trim zero d b e = refl
 links-trim (suc k) d b e =
-    let p = passed-here (wellMade (firstOf d)) (small (wideOf (firstOf d)) (highOf (firstOf d))) (linkTests k (restOf d)) e in
-    ap₂ (λ s t. s ∷ t) (shape-trim (firstOf d) (first-bytes d b) (p .0)) (links-trim k (restOf d) (rest-bytes d b) (p .1 .1))
+    let p = passed-here (wellMade (firstOf d))
+    (small (wideOf (firstOf d)) (highOf (firstOf d))) (linkTests k (restOf d)) e in
+    ap₂ (λ s t. s ∷ t) (shape-trim (firstOf d) (first-bytes d b) (p .0))
+    (links-trim k (restOf d) (rest-bytes d b) (p .1 .1))
 
 -- ---- the check, by what is met first
 
 module _ (element chain : List ℕ) (k : ℕ) (after : Told) where
-  pub check-unmade : (t : Told) → wellMade element ≡ false → t ≡ plain 4 → t ≡ refuse (checkTests element k chain) after
+  pub check-unmade : (t : Told) → wellMade element ≡ false → t ≡ plain 4
+      → t ≡ refuse (checkTests element k chain) after
   unfolding checkTests
   check-unmade t e q = q ∙ ap (λ b. refuse ((not b, 4) ∷ chainTests k chain) after) (sym e)
 
@@ -165,23 +187,28 @@ module _ (element chain : List ℕ) (k : ℕ) (after : Told) where
       links-opened = ap (λ b. refuse ((not b, 6) ∷ linkTests k chain) after) (sym right) ∙ opened
 
       module _ (ls : Links) (so : Promised chain k ls) where
-        pub check-refused : eqb (told (ls .answer) .number) 0 ≡ false → told (ls .answer) ≡ refuse (checkTests element k chain) after
+        pub check-refused : eqb (told (ls .answer) .number) 0 ≡ false
+            → told (ls .answer) ≡ refuse (checkTests element k chain) after
         unfolding plain
         check-refused e =
-            so .0
-            ∙ some-after (linkTests k chain) (λ z. false≢true (sym e ∙ ap (λ (t : Told). eqb (t .number) 0) (so .0 ∙ z))) after
+            so .answered
+            ∙ some-after (linkTests k chain)
+            (λ z. false≢true (sym e ∙ ap (λ (t : Told). eqb (t .number) 0) (so .answered ∙ z))) after
             ∙ links-opened
 
         module _ (e : eqb (told (ls .answer) .number) 0 ≡ true) where
           passed : refuse (linkTests k chain) (plain 0) ≡ plain 0
-          passed = zero-none (linkTests k chain) (numbered k chain) (ap (λ (t : Told). eqb (t .number) 0) (sym (so .0)) ∙ e)
+          passed =
+              zero-none (linkTests k chain) (numbered k chain)
+              (ap (λ (t : Told). eqb (t .number) 0) (sym (so .answered)) ∙ e)
 
-          links-are : take k (ls .all) ≡ elementsIn k chain
-          links-are = so .1 (so .0 ∙ passed)
+          pub links-are : take k (ls .all) ≡ elementsIn k chain
+          links-are = so .elements (ap isDone passed ∙ all-done)
 
           nothing-refused : refuse (checkTests element k chain) (plain 0) ≡ plain 0
           unfolding checkTests chainTests
-          nothing-refused = ap₂ (λ b c. refuse ((not b, 4) ∷ (not c, 6) ∷ linkTests k chain) (plain 0)) made right ∙ passed
+          nothing-refused =
+              ap₂ (λ b c. refuse ((not b, 4) ∷ (not c, 6) ∷ linkTests k chain) (plain 0)) made right ∙ passed
 
           pub check-passed : after ≡ refuse (checkTests element k chain) after
           check-passed = sym (none-after (linkTests k chain) (numbered k chain) passed after) ∙ links-opened
@@ -190,10 +217,13 @@ module _ (element chain : List ℕ) (k : ℕ) (after : Told) where
             pub chained : Chained (shapeOf whole) (shapesOf (take k (ls .all)))
             chained =
                 subst (λ (w : Element). Chained (shapeOf w) (shapesOf (take k (ls .all)))) (sym is)
-                (subst (λ (es : List Element). Chained (shapeOf (elementOf element)) (shapesOf es)) (sym links-are)
+                (subst (λ (es : List Element). Chained (shapeOf (elementOf element)) (shapesOf es))
+                (sym links-are)
                 (records-chained element chain k (well-chained element chain k nothing-refused)))
 
-            pub same-check : Bytes element → Bytes chain → checkOf (shapeOf whole) (shapesOf (take k (ls .all))) ≡ checkOf (shapeIn element) (linksIn k chain)
+            pub same-check : Bytes element → Bytes chain
+                → checkOf (shapeOf whole) (shapesOf (take k (ls .all)))
+                ≡ checkOf (shapeIn element) (linksIn k chain)
             same-check be bc =
                 ap₂ (λ (w : Element) (es : List Element). checkOf (shapeOf w) (shapesOf es)) is links-are
                 ∙ check-trim (shapeOf (elementOf element)) (shapesOf (elementsIn k chain))
@@ -206,7 +236,8 @@ pub check-numbered : (element : List ℕ) (k : ℕ) (chain : List ℕ) → Numbe
 unfolding checkTests chainTests
 check-numbered element k chain = (lit≤ tt, (lit≤ tt, numbered k chain))
 
-first-number : (b : Bool) (m n : ℕ) (ts : List Test) (P : ℕ → Type 0) → P m → (FirstHolds ts n → P n) → FirstHolds ((b, m) ∷ ts) n → P n
+first-number : (b : Bool) (m n : ℕ) (ts : List Test) (P : ℕ → Type 0)
+    → P m → (FirstHolds ts n → P n) → FirstHolds ((b, m) ∷ ts) n → P n
 first-number true m n ts P p q here = p
 first-number false m n ts P p q (later f) = q f
 
@@ -222,9 +253,11 @@ unfolding linkTests
 links-number zero d n f = last-number (ltb 0 (length d)) 4 n (λ n. (n ≡ 4) ⊎ (n ≡ 6)) (inl refl) f
 links-number (suc k) d n f =
     first-number (not (wellMade (firstOf d))) 4 n _ (λ n. (n ≡ 4) ⊎ (n ≡ 6)) (inl refl)
-    (first-number (not (small (wideOf (firstOf d)) (highOf (firstOf d)))) 6 n _ (λ n. (n ≡ 4) ⊎ (n ≡ 6)) (inr refl) (links-number k (restOf d) n)) f
+    (first-number (not (small (wideOf (firstOf d)) (highOf (firstOf d)))) 6 n _ (λ n. (n ≡ 4) ⊎ (n ≡ 6))
+    (inr refl) (links-number k (restOf d) n)) f
 
-pub check-number : (element : List ℕ) (k : ℕ) (chain : List ℕ) (n : ℕ) → FirstHolds (checkTests element k chain) n → (n ≡ 4) ⊎ (n ≡ 6)
+pub check-number : (element : List ℕ) (k : ℕ) (chain : List ℕ) (n : ℕ)
+    → FirstHolds (checkTests element k chain) n → (n ≡ 4) ⊎ (n ≡ 6)
 unfolding checkTests chainTests
 check-number element k chain n f =
     first-number (not (wellMade element)) 4 n _ (λ n. (n ≡ 4) ⊎ (n ≡ 6)) (inl refl)

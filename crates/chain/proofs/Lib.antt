@@ -1,4 +1,3 @@
 pub mod Reading
 pub mod Checking
-pub mod Finding
 pub mod Settled

@@ -1,4 +1,5 @@
--- Reading links one after another: where each begins and ends, what is refused first, and the elements that are read.
+-- Reading links one after another: where each begins and ends,
+-- what is refused first, and the elements that are read.
 use Prim.Native.Nat.{ℕ, suc, _+_, _-_, _≤_, _<_}
 use mathlib.Core.Path.{_≡_, refl, sym, ap, ap₂, _∙_, subst}
 use mathlib.Core.Bool.{Bool, true, false, not, cond, false≢true}
@@ -13,33 +14,40 @@ use lib.Seq.{drop-drop, take-suc-set}
 use Rattle.basics.proofs.Lists.{tail-is}
 use Rattle.answer.specs.declared.Told.{Told}
 use Rattle.answer.specs.declared.Answer.the-variants.{Done, Shape, Chain}
-use Rattle.answer.specs.Answer.{told, plain}
+use Rattle.answer.specs.Answer.{told, plain, isDone}
 use Rattle.answer.specs.Refuse.{Test, refuse}
 use Rattle.answer.proofs.Order.{Numbered, number-of}
+use Rattle.answer.proofs.Lent.{not-done}
 use Rattle.element.specs.declared.Element.{Element}
 use Rattle.element.specs.declared.Read.{Read}
 use Rattle.element.specs.Descriptor.{wideOf, highOf, wellMade, descriptorLength}
 use Rattle.element.specs.Record.{elementOf, nothing}
 use Rattle.morphology.specs.Chain.{mostLinks}
 use Rattle.chain.specs.declared.Links.{Links}
-use Rattle.chain.specs.Reading.{firstOf, restOf, small, linkTests, elementsIn}
+use Rattle.chain.specs.Reading.{firstOf, restOf, small, linkTests}
+use Rattle.chain.specs.Steps.Records.{elementsIn, ReadAs}
 
 -- ---- refusals
 
--- a list of refusals, as it stands before what follows: where none holds it is what follows, and else it does not ask what follows
-pub none-after : (ts : List Test) → Numbered ts → refuse ts (plain 0) ≡ plain 0 → (after : Told) → refuse ts after ≡ after
+-- a list of refusals, as it stands before what follows:
+-- where none holds it is what follows, and else it does not ask what follows
+pub none-after : (ts : List Test) → Numbered ts → refuse ts (plain 0) ≡ plain 0 → (after : Told)
+    → refuse ts after ≡ after
 none-after [] some e after = refl
 none-after ((true, m) ∷ ts) some e after = let z = number-of m 0 e in absurd (omega (arith, some .0))
 none-after ((false, m) ∷ ts) some e after = none-after ts (some .1) e after
 
-pub some-after : (ts : List Test) → (refuse ts (plain 0) ≡ plain 0 → ⊥) → (after : Told) → refuse ts (plain 0) ≡ refuse ts after
+pub some-after : (ts : List Test) → (refuse ts (plain 0) ≡ plain 0 → ⊥) → (after : Told)
+    → refuse ts (plain 0) ≡ refuse ts after
 some-after [] n after = absurd (n refl)
 some-after ((true, m) ∷ ts) n after = refl
 some-after ((false, m) ∷ ts) n after = some-after ts n after
 
 -- what a reader of one descriptor answers
 abbrev pub ReadOf : List ℕ → Read → Type 0
-ReadOf d r = (told (r .answer) ≡ refuse ((not (wellMade d), 4) ∷ []) (plain 0)) × (r .element ≡ cond (wellMade d) (elementOf d) nothing)
+ReadOf d r =
+    (told (r .answer) ≡ refuse ((not (wellMade d), 4) ∷ []) (plain 0))
+    × (r .element ≡ cond (wellMade d) (elementOf d) nothing)
 
 -- it is done exactly where the descriptor is well made
 module _ (d : List ℕ) (r : Read) (so : ReadOf d r) where
@@ -68,7 +76,8 @@ module _ (d : List ℕ) (r : Read) (so : ReadOf d r) where
 -- ---- one link after another
 
 -- the descriptor that begins at the place `at`, of n bytes
-module _ (d : List ℕ) (at n : ℕ) (inside : at ≤ length d) (en : n ≡ descriptorLength (take (length d - at) (drop at d))) where
+module _ (d : List ℕ) (at n : ℕ) (inside : at ≤ length d)
+    (en : n ≡ descriptorLength (take (length d - at) (drop at d))) where
   len-is : n ≡ descriptorLength (drop at d)
   len-is = en ∙ ap descriptorLength (tail-is d at)
 
@@ -84,7 +93,8 @@ module _ (d : List ℕ) (at n : ℕ) (inside : at ≤ length d) (en : n ≡ desc
   unfolding restOf
   rest-is = sym (drop-drop n at d) ∙ ap (λ m. drop m (drop at d)) len-is
 
--- link i begins at the place `at`: the refusal from here on is the refusal, and the elements so far with those from here on are all
+-- link i begins at the place `at`: the refusal from here on is the refusal,
+-- and the elements so far with those from here on are all
 pub record Onward (d : List ℕ) (k : ℕ) (all : List Element) (i at : ℕ) : Type 0 where
   pub inside : at ≤ length d
   pub long : length all ≡ mostLinks
@@ -100,9 +110,16 @@ onward-start d k all l =
       elements = ap (λ n. elementsIn n d) (sub-zero k);
     }
 
+-- a refusal promises no elements
+pub refused-as : (t : Told) (k : ℕ) (d : List ℕ) (ls : Links) → told (ls .answer) ≡ t
+    → isDone (told (ls .answer)) ≡ false
+    → ReadAs t k d ls
+refused-as t k d ls e q =
+    record { answered = e; elements = λ z. absurd (false≢true (sym q ∙ ap isDone e ∙ z)) }
+
 -- what a chain's reading promises
 abbrev pub Promised : List ℕ → ℕ → Links → Type 0
-Promised d k r = (told (r .answer) ≡ refuse (linkTests k d) (plain 0)) × (told (r .answer) ≡ plain 0 → take k (r .all) ≡ elementsIn k d)
+Promised d k r = ReadAs (refuse (linkTests k d) (plain 0)) k d r
 
 module _ (d : List ℕ) (k : ℕ) (all : List Element) (i at : ℕ) (o : Onward d k all i at) where
   module _ (more : i < k) (n : ℕ) (en : n ≡ descriptorLength (take (length d - at) (drop at d))) where
@@ -118,11 +135,14 @@ module _ (d : List ℕ) (k : ℕ) (all : List Element) (i at : ℕ) (o : Onward 
     same : k - suc i ≡ k - (i + 1)
     same = omega arith
 
-    turn : (b s : Bool) → wellMade (firstOf (drop at d)) ≡ b → small (wideOf (firstOf (drop at d))) (highOf (firstOf (drop at d))) ≡ s
-        → refuse ((not b, 4) ∷ (not s, 6) ∷ linkTests (k - suc i) (restOf (drop at d))) (plain 0) ≡ refuse (linkTests k d) (plain 0)
+    one-link : (b s : Bool) → wellMade (firstOf (drop at d)) ≡ b
+        → small (wideOf (firstOf (drop at d))) (highOf (firstOf (drop at d))) ≡ s
+        → refuse ((not b, 4) ∷ (not s, 6) ∷ linkTests (k - suc i) (restOf (drop at d))) (plain 0)
+        ≡ refuse (linkTests k d) (plain 0)
     unfolding linkTests
-    turn b s eb es =
-        ap₂ (λ x y. refuse ((not x, 4) ∷ (not y, 6) ∷ linkTests (k - suc i) (restOf (drop at d))) (plain 0)) (sym eb) (sym es)
+    one-link b s eb es =
+        ap₂ (λ x y. refuse ((not x, 4) ∷ (not y, 6) ∷ linkTests (k - suc i) (restOf (drop at d))) (plain 0))
+        (sym eb) (sym es)
         ∙ ap (λ m. refuse (linkTests m (drop at d)) (plain 0)) left ∙ o .refusal
 
     module _ (r : Read) (so : ReadOf (take (at + n - at) (drop at d)) r) where
@@ -130,11 +150,13 @@ module _ (d : List ℕ) (k : ℕ) (all : List Element) (i at : ℕ) (o : Onward 
       read-first = subst (λ l. ReadOf l r) (first-is d at n (o .inside) en) so
 
       -- a link that is not well made
-      pub link-unmade : eqb (told (r .answer) .number) 0 ≡ false → Promised d k (record { answer = r .answer; all = all })
+      pub link-unmade : eqb (told (r .answer) .number) 0 ≡ false
+          → Promised d k (record { answer = r .answer; all = all })
       link-unmade e =
           let b = read-unmade (firstOf (drop at d)) r read-first e in
           let t = unmade-told (firstOf (drop at d)) r read-first b in
-          (t ∙ turn false (small (wideOf (firstOf (drop at d))) (highOf (firstOf (drop at d)))) b refl, λ z. let q = number-of 4 0 (sym t ∙ z) in absurd (omega arith))
+          refused-as _ k d _
+          (t ∙ one-link false (small (wideOf (firstOf (drop at d))) (highOf (firstOf (drop at d)))) b refl) e
 
       module _ (e : eqb (told (r .answer) .number) 0 ≡ true) where
         made : wellMade (firstOf (drop at d)) ≡ true
@@ -143,25 +165,32 @@ module _ (d : List ℕ) (k : ℕ) (all : List Element) (i at : ℕ) (o : Onward 
         element-is : r .element ≡ elementOf (firstOf (drop at d))
         element-is = made-element (firstOf (drop at d)) r read-first made
 
-        size-is : (s : Bool) → small (r .element .w) (r .element .h) ≡ s → small (wideOf (firstOf (drop at d))) (highOf (firstOf (drop at d))) ≡ s
+        size-is : (s : Bool) → small (r .element .outline .w) (r .element .outline .h) ≡ s
+            → small (wideOf (firstOf (drop at d))) (highOf (firstOf (drop at d))) ≡ s
         unfolding elementOf
-        size-is s q = sym (ap (λ (e : Element). small (e .w) (e .h)) element-is) ∙ q
+        size-is s q = sym (ap (λ (e : Element). small (e .outline .w) (e .outline .h)) element-is) ∙ q
 
         -- one that is above 8 by 8
-        pub link-wide : small (r .element .w) (r .element .h) ≡ false → Promised d k (record { answer = Chain; all = all })
+        pub link-wide : small (r .element .outline .w) (r .element .outline .h) ≡ false
+            → Promised d k (record { answer = Chain; all = all })
         unfolding told
-        link-wide s = (turn true false made (size-is false s), λ z. let q = number-of 6 0 z in absurd (omega arith))
+        link-wide s =
+            refused-as _ k d _ (one-link true false made (size-is false s)) (not-done 6 (omega arith))
 
         -- one that is taken
-        pub link-taken : small (r .element .w) (r .element .h) ≡ true → k ≤ mostLinks → Onward d k (set all i (r .element)) (i + 1) (at + n)
+        pub link-taken : small (r .element .outline .w) (r .element .outline .h) ≡ true → k ≤ mostLinks
+            → Onward d k (set all i (r .element)) (i + 1) (at + n)
         unfolding elementsIn
         link-taken s few =
             record {
               inside = end-in;
               long = length-set all i (r .element) ∙ o .long;
-              refusal = ap₂ (λ m l. refuse (linkTests m l) (plain 0)) (sym same) rest-here ∙ turn true true made (size-is true s);
+              refusal =
+                  ap₂ (λ m l. refuse (linkTests m l) (plain 0)) (sym same) rest-here
+                  ∙ one-link true true made (size-is true s);
               elements =
-                  ap₂ (λ a b. a ++ b) (ap (λ m. take m (set all i (r .element))) (add-one i) ∙ take-suc-set all i (r .element) (in-array (o .long)))
+                  ap₂ (λ a b. a ++ b) (ap (λ m. take m (set all i (r .element))) (add-one i)
+                  ∙ take-suc-set all i (r .element) (in-array (o .long)))
                   (ap₂ (λ m l. elementsIn m l) (sym same) rest-here)
                   ∙ append-assoc (take i all) (r .element ∷ []) (elementsIn (k - suc i) (restOf (drop at d)))
                   ∙ ap (λ e. take i all ++ (e ∷ elementsIn (k - suc i) (restOf (drop at d)))) element-is
@@ -176,18 +205,25 @@ module _ (d : List ℕ) (k : ℕ) (all : List Element) (i at : ℕ) (o : Onward 
     none : 0 ≡ k - i
     none = omega arith
 
-    over : (b : Bool) → ltb 0 (length (drop at d)) ≡ b → refuse ((b, 4) ∷ []) (plain 0) ≡ refuse (linkTests k d) (plain 0)
+    over : (b : Bool) → ltb 0 (length (drop at d)) ≡ b
+        → refuse ((b, 4) ∷ []) (plain 0) ≡ refuse (linkTests k d) (plain 0)
     unfolding linkTests
-    over b e = ap (λ x. refuse ((x, 4) ∷ []) (plain 0)) (sym e) ∙ ap (λ m. refuse (linkTests m (drop at d)) (plain 0)) none ∙ o .refusal
+    over b e =
+        ap (λ x. refuse ((x, 4) ∷ []) (plain 0)) (sym e)
+        ∙ ap (λ m. refuse (linkTests m (drop at d)) (plain 0)) none ∙ o .refusal
 
     pub bytes-follow : at < length d → Promised d k (record { answer = Shape; all = all })
     unfolding told
     bytes-follow l =
-        (over true (lt-ltb 0 (length (drop at d)) (omega (arith, length-drop at d))), λ z. let q = number-of 4 0 z in absurd (omega arith))
+        refused-as _ k d _ (over true (lt-ltb 0 (length (drop at d)) (omega (arith, length-drop at d))))
+        (not-done 4 (omega arith))
 
     pub links-read : length d ≤ at → Promised d k (record { answer = Done; all = all })
     unfolding told elementsIn
-    links-read l = (
-      over false (le-ltb 0 (length (drop at d)) (omega (arith, length-drop at d))),
-      λ z. ap (λ m. take m all) last ∙ sym (append-nil (take i all)) ∙ ap (λ m. take i all ++ elementsIn m (drop at d)) none ∙ o .elements,
-    )
+    links-read l =
+        record {
+          answered = over false (le-ltb 0 (length (drop at d)) (omega (arith, length-drop at d)));
+          elements =
+              λ z. ap (λ m. take m all) last ∙ sym (append-nil (take i all))
+              ∙ ap (λ m. take i all ++ elementsIn m (drop at d)) none ∙ o .elements;
+        }

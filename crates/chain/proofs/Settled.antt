@@ -1,19 +1,35 @@
--- Any two outcomes that a contract allows of one call are the same: for each public function, of its contract itself, as the prover reads it.
-use Rattle.answer.proofs.OneToOne.{same-answer}
-use mathlib.Core.Path.{_≡_}
+-- Any two outcomes that a contract allows of one call are the same:
+-- for each public function, of its contract itself, as the prover reads it.
+use mathlib.Core.Path.{_≡_, sym, ap, _∙_}
+use mathlib.Core.Bool.{true}
 use borrow.Fn.Kinds.{Dens, resT, endedOf}
 use denote.Triple.Clauses.{AtExit}
 use contract.Lifetimes.{Lfts}
+use lib.ListN.{take}
+use Rattle.answer.specs.Answer.{told, isDone}
+use Rattle.answer.proofs.OneToOne.{same-answer}
 use Rattle.basics.proofs.Settled.{Settles, settled}
-use Rattle.chain.proofs.last_picture.Kinds as last-picture-kinds
-use Rattle.chain.proofs.last_picture.Reads as last-picture
+use Rattle.chain.proofs.is_counted.Kinds as is-counted-kinds
+use Rattle.chain.proofs.is_counted.Reads as is-counted
+use Rattle.chain.proofs.checked_links.Kinds as checked-links-kinds
+use Rattle.chain.proofs.checked_links.Reads as checked-links
 use Rattle.chain.proofs.check_chain.Kinds as check-chain-kinds
 use Rattle.chain.proofs.check_chain.Reads as check-chain
 
+pub is-counted-settled : Settles 0 is-counted-kinds.ps is-counted-kinds.r is-counted.Learnt
+is-counted-settled κs a x y s t p q = settled p q
+
+-- the answers; and the elements, where the answer is done
+pub checked-links-settled : (κs : Lfts 2) (a : Dens κs checked-links-kinds.ps)
+    (x y : resT checked-links-kinds.r κs .Denot)
+    (s t : AtExit (endedOf 2 checked-links-kinds.ps checked-links-kinds.r) κs)
+    → checked-links.Learnt κs a x s → checked-links.Learnt κs a y t
+    → (x .answer ≡ y .answer)
+    × (isDone (told (x .answer)) ≡ true → take (a .1 .0) (x .all) ≡ take (a .1 .0) (y .all))
+checked-links-settled κs a x y s t p q = (
+  same-answer (x .answer) (y .answer) _ (p .answered) (q .answered),
+  λ z. let done = ap isDone (sym (p .answered)) ∙ z in p .elements done ∙ sym (q .elements done),
+)
+
 pub check-chain-settled : Settles 2 check-chain-kinds.ps check-chain-kinds.r check-chain.Learnt
 check-chain-settled κs a x y s t p q = same-answer x y _ p q
-
--- the bytes of the part that is given back
-pub last-picture-settled : (κs : Lfts 1) (a : Dens κs last-picture-kinds.ps) (x y : resT last-picture-kinds.r κs .Denot) (s t : AtExit (endedOf 1 last-picture-kinds.ps last-picture-kinds.r) κs)
-    → last-picture.Learnt κs a x s → last-picture.Learnt κs a y t → x .now ≡ y .now
-last-picture-settled κs a x y s t p q = settled p q

@@ -1,4 +1,5 @@
--- Document 01, "Chains" and "Refusal numbers": a chain as bytes, the descriptors of its links one after another, and the order of its refusals.
+-- Document 01, "Chains" and "Refusal numbers": a chain as bytes,
+-- the descriptors of its links one after another, and the order of its refusals.
 use Prim.Native.Nat.{ℕ, zero, suc}
 use mathlib.Core.Bool.{Bool, not, _&&_}
 use mathlib.Core.List.{List, [], _∷_}
@@ -7,13 +8,11 @@ use lib.ListN.{length, take, drop}
 use Rattle.answer.specs.declared.Told.{Told}
 use Rattle.answer.specs.Answer.{told}
 use Rattle.answer.specs.Refuse.{Test, refuse}
-use Rattle.element.specs.declared.Element.{Element}
 use Rattle.element.specs.Shape.{Shape}
 use Rattle.element.specs.Descriptor.{wideOf, highOf, wellMade, shapeIn, descriptorLength}
-use Rattle.element.specs.Record.{elementOf}
 use Rattle.morphology.specs.Chain.{mostLinkCells, mostLinks}
 use Rattle.morphology.specs.Check.{checkOf}
-use Rattle.faults.specs.Faults.{answerOf}
+use Rattle.faults.specs.Verdicts.{answerOf}
 
 -- the first of the descriptors, by its own w and h, and what follows it
 unfoldable pub firstOf : List ℕ → List ℕ
@@ -29,7 +28,7 @@ counted k = leb 1 k && leb k mostLinks
 abbrev pub small : ℕ → ℕ → Bool
 small w h = leb w mostLinkCells && leb h mostLinkCells
 
--- each link in turn (4, then 6), then following bytes (4)
+-- one link after another (4, then 6), then following bytes (4)
 unfoldable pub linkTests : ℕ → List ℕ → List Test
 linkTests zero d = (ltb 0 (length d), 4) ∷ []
 linkTests (suc n) d =
@@ -52,9 +51,5 @@ linksIn (suc n) d = shapeIn (firstOf d) ∷ linksIn n (restOf d)
 
 -- what the check answers: the first refusal, or else the verdict, accepted or SPLIT
 unfoldable pub checked : List ℕ → ℕ → List ℕ → Told
-checked element k chain = refuse (checkTests element k chain) (told (answerOf (checkOf (shapeIn element) (linksIn k chain))))
-
--- the records that are read of the links
-unfoldable pub elementsIn : ℕ → List ℕ → List Element
-elementsIn zero d = []
-elementsIn (suc n) d = elementOf (firstOf d) ∷ elementsIn n (restOf d)
+checked element k chain =
+    refuse (checkTests element k chain) (told (answerOf (checkOf (shapeIn element) (linksIn k chain))))

@@ -1,4 +1,5 @@
-pub mod Links
-pub mod Turns
+pub mod Results
+pub mod Buffers
 pub mod Answers
+pub mod Finding
 pub mod Settled

@@ -1,2 +1,3 @@
 pub mod Run
-pub mod Turns
+pub mod Finder
+pub mod Steps

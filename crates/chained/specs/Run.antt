@@ -4,7 +4,7 @@ use mathlib.Core.Bool.{cond}
 use mathlib.Core.List.{List}
 use lib.Dec.{eqb}
 use Rattle.answer.specs.declared.Told.{Told}
-use Rattle.answer.specs.Answer.{plain, isDone}
+use Rattle.answer.specs.Answer.{plain}
 use Rattle.answer.specs.Refuse.{refuse}
 use Rattle.answer.specs.Lent.{ifDone}
 use Rattle.picture.specs.declared.Depth.{Depth}
@@ -12,17 +12,16 @@ use Rattle.picture.specs.Frame.{top, frame}
 use Rattle.picture.specs.Points.{valueAt}
 use Rattle.picture.specs.Bytes.{Picture, written}
 use Rattle.morphology.specs.Chain.{erodeAll, dilateAll}
-use Rattle.operation.specs.Tests.{sourceTests, roomTests}
+use Rattle.judge.specs.declared.Padding.the-variants.{Judged}
+use Rattle.judge.specs.Tests.{pictureTests, roomTests}
 use Rattle.chain.specs.Reading.{linksIn, checked}
 
--- refused where the check refuses: SIZE, SOURCE and PAD before it, and after it ROOM, of the shorter of the two buffers
+-- refused where the check refuses: SIZE, SOURCE and PAD before it,
+-- and after it ROOM, of the shorter of the two buffers
 unfoldable pub runAnswer : Depth → ℕ → ℕ → List ℕ → List ℕ → ℕ → List ℕ → ℕ → Told
 runAnswer depth w h source element k chain room =
-    refuse (sourceTests depth w h source) (ifDone (checked element k chain) (refuse (roomTests depth w h room) (plain 0)))
-
--- no refusal changes a lent byte: what the bytes were, or what was made of them where the answer is done
-abbrev pub keptUnlessDone : Told → List ℕ → List ℕ → List ℕ
-keptUnlessDone answer was made = cond (isDone answer) made was
+    refuse (pictureTests Judged depth w h source)
+    (ifDone (checked element k chain) (refuse (roomTests depth w h 0 room) (plain 0)))
 
 -- the results, by their number: each of the first i links in order, all as erosion or all as dilation
 unfoldable pub eroded : Depth → ℕ → ℕ → List ℕ → List ℕ → ℕ → Picture
@@ -31,7 +30,8 @@ eroded depth w h source chain i = erodeAll (top depth) (frame w h) (linksIn i ch
 unfoldable pub dilated : Depth → ℕ → ℕ → List ℕ → List ℕ → ℕ → Picture
 dilated depth w h source chain i = dilateAll (frame w h) (linksIn i chain) (valueAt depth source w)
 
--- results 1, 3 and 5 go to the first buffer, 2 and 4 to the second: after k links the last result is in one and the one before it in the other
+-- results 1, 3 and 5 go to the first buffer, 2 and 4 to the second:
+-- after k links the last result is in one and the one before it in the other
 abbrev pub inFirst : ℕ → ℕ
 inFirst k = cond (eqb (k % 2) 1) k (k - 1)
 

@@ -1,96 +1,88 @@
-// Chained erosion and dilation as a user calls them: each link in order, by turns into two work buffers.
+// Chained erosion and dilation as a user calls them: each link in order,
+// into one of two work buffers and then the other; and the finder of the last picture.
 use answer::Answer;
+use element::Element;
+use judge::Padding;
 use picture::Depth;
-use rows::Task;
+use reach::MOST_LINKS;
 use rows::Way;
 ghost use mathlib.Core.Path.{_≡_};
-ghost use Prim.Native.Nat.{min, _≤_};
+ghost use Prim.Native.Nat.{min};
 ghost use lib.ListN.{length};
 ghost use Rattle.answer.specs.Answer.{told};
-ghost use Rattle.rows.specs.Task.{depthIf, growsOf};
-ghost use Rattle.chained.specs.Run.{runAnswer, keptUnlessDone, eroded, dilated, firstAfter, secondAfter};
-ghost use Rattle.chained.specs.Turns.{resultsBy, hopped, firstBy, secondBy, Going};
+ghost use Rattle.answer.specs.Lent.{unlessRefused};
+ghost use Rattle.picture.specs.Frame.{Holds};
+ghost use Rattle.rows.specs.Steps.Ways.{growsOf};
+ghost use Rattle.apply.specs.Steps.Applied.{Fitting};
+ghost use Rattle.chained.specs.Run.{runAnswer, eroded, dilated, firstAfter, secondAfter};
+ghost use Rattle.chained.specs.Finder.{foundAt};
+ghost use Rattle.chained.specs.Steps.Buffers.{resultsBy, madeBy, firstBy, secondBy, Going};
 
-// The depth of a task's pictures.
-fn depth_of(k: Task) -> Depth
-    ensures { λ r. ⌜ r ≡ depthIf (k .packed) ⌝ }
-{
-    if k.packed {
-        Depth::OneBit
-    } else {
-        Depth::EightBit
-    }
-}
-
-// One link, from s into t.
-fn hop(k: Task, w: usize, h: usize, s: &[u8], d: &[u8], t: &mut [u8])
-    ensures { λ _. ⌜ now (t .exit) ≡ hopped k w h (now (s .entry)) (now (d .entry)) (now (t .entry)) ⌝ }
-{
-    let depth = depth_of(k);
-    if k.grows {
-        flat::dilate(depth, w, h, s, d, t);
-        return;
-    }
-    flat::erode(depth, w, h, s, d, t);
-}
-
-// The link after i others, from what the last of them left into the other buffer; the first link reads the source.
+// The link after i others, from what the last of them left into the other buffer;
+// the first link reads the source.
 fn link(
-    k: Task,
+    depth: Depth,
+    way: Way,
     w: usize,
     h: usize,
-    n: usize,
     i: usize,
     source: &[u8],
-    d: &[u8],
+    e: Element,
     first: &mut [u8],
     second: &mut [u8],
 )
-    requires { ⌜ (n ≤ length (now first)) × (n ≤ length (now second)) ⌝ }
-    ensures first { λ _. ⌜ now (first .exit) ≡ firstBy k w h n i (now (source .entry)) (now (d .entry)) (now (first .entry)) (now (second .entry)) ⌝ }
-    ensures second { λ _. ⌜ now (second .exit) ≡ secondBy k w h n i (now (d .entry)) (now (first .entry)) (now (second .entry)) ⌝ }
+    requires { ⌜ Holds depth (length (now source)) w h ⌝ }
+    requires { ⌜ Holds depth (length (now first)) w h ⌝ }
+    requires { ⌜ Holds depth (length (now second)) w h ⌝ }
+    requires { ⌜ Fitting e ⌝ }
+    ensures first { λ _. ⌜
+        now (first .exit)
+        ≡ firstBy (growsOf way) depth w h i e (now (source .entry))
+        (now (first .entry)) (now (second .entry)) ⌝ }
+    ensures second { λ _. ⌜
+        now (second .exit)
+        ≡ secondBy (growsOf way) depth w h i e (now (first .entry)) (now (second .entry)) ⌝ }
 {
     if i == 0 {
-        hop(k, w, h, source, d, first);
+        apply::flat(depth, way, w, h, source, e, first);
         return;
     }
     if i % 2 == 1 {
-        hop(k, w, h, &first[..n], d, second);
+        apply::flat(depth, way, w, h, &first[..], e, second);
         return;
     }
-    hop(k, w, h, &second[..n], d, first);
+    apply::flat(depth, way, w, h, &second[..], e, first);
 }
 
 // All links in order.
 fn each_link(
-    k: Task,
+    depth: Depth,
+    way: Way,
     w: usize,
     h: usize,
-    n: usize,
     source: &[u8],
+    all: [Element; MOST_LINKS],
     links: usize,
-    chain: &[u8],
     first: &mut [u8],
     second: &mut [u8],
 )
-    requires { ⌜ Going k w h n (now source) links (now chain) (length (now first)) (length (now second)) ⌝ }
-    ensures first { λ _. ⌜ now (first .exit) ≡ firstAfter (depthIf (k .packed)) w h (resultsBy (k .grows) (depthIf (k .packed)) w h (now (source .entry)) (now (chain .entry))) links (now (first .entry)) ⌝ }
-    ensures second { λ _. ⌜ now (second .exit) ≡ secondAfter (depthIf (k .packed)) w h (resultsBy (k .grows) (depthIf (k .packed)) w h (now (source .entry)) (now (chain .entry))) links (now (second .entry)) ⌝ }
+    requires { ⌜ Going depth w h (length (now source)) all links (length (now first))
+        (length (now second)) ⌝ }
+    ensures first { λ _. ⌜
+        now (first .exit)
+        ≡ firstAfter depth w h (madeBy (growsOf way) depth w h (now (source .entry)) all)
+        links (now (first .entry)) ⌝ }
+    ensures second { λ _. ⌜
+        now (second .exit)
+        ≡ secondAfter depth w h (madeBy (growsOf way) depth w h (now (source .entry)) all)
+        links (now (second .entry)) ⌝ }
 {
     let mut i = 0;
-    let mut at = 0;
     while i < links {
-        let end = at + element::descriptor_len(&chain[at..]);
-        link(k, w, h, n, i, source, &chain[at..end], first, second);
-        at = end;
+        let e = all[i];
+        link(depth, way, w, h, i, source, e, first, second);
         i += 1;
     }
-}
-
-fn lesser(a: usize, b: usize) -> usize
-    ensures { λ r. ⌜ r ≡ min a b ⌝ }
-{
-    if b < a { b } else { a }
 }
 
 fn run(
@@ -105,39 +97,38 @@ fn run(
     first: &mut [u8],
     second: &mut [u8],
 ) -> Answer
-    ensures answer { λ r. ⌜ told r ≡ runAnswer depth w h (now (source .entry)) (now (element .entry)) links (now (chain .entry)) (min (length (now (first .entry))) (length (now (second .entry)))) ⌝ }
-    ensures first { λ r. ⌜ now (first .exit) ≡ keptUnlessDone (told r) (now (first .entry)) (firstAfter depth w h (resultsBy (growsOf way) depth w h (now (source .entry)) (now (chain .entry))) links (now (first .entry))) ⌝ }
-    ensures second { λ r. ⌜ now (second .exit) ≡ keptUnlessDone (told r) (now (second .entry)) (secondAfter depth w h (resultsBy (growsOf way) depth w h (now (source .entry)) (now (chain .entry))) links (now (second .entry))) ⌝ }
+    ensures answer { λ r. ⌜
+        told r
+        ≡ runAnswer depth w h (now (source .entry)) (now (element .entry)) links (now (chain .entry))
+        (min (length (now (first .entry))) (length (now (second .entry)))) ⌝ }
+    ensures first { λ r. ⌜
+        now (first .exit)
+        ≡ unlessRefused (told r) (now (first .entry))
+        (firstAfter depth w h
+        (resultsBy (growsOf way) depth w h (now (source .entry)) (now (chain .entry))) links
+        (now (first .entry))) ⌝ }
+    ensures second { λ r. ⌜
+        now (second .exit)
+        ≡ unlessRefused (told r) (now (second .entry))
+        (secondAfter depth w h
+        (resultsBy (growsOf way) depth w h (now (source .entry)) (now (chain .entry))) links
+        (now (second .entry))) ⌝ }
 {
-    let check = chain::check_chain(element, links, chain);
-    let no = operation::refusal(
-        depth,
-        w,
-        h,
-        source,
-        check,
-        lesser(first.len(), second.len()),
-    );
+    let read = chain::checked_links(element, links, chain);
+    let check = read.answer;
+    let all = read.all;
+    let room = basics::lesser(first.len(), second.len());
+    let no = judge::refusal(Padding::Judged, depth, w, h, source, check, 0, room);
     if answer::is_done(no) {
-        let n = picture::picture_bytes(depth, w, h);
-        each_link(
-            rows::task_of(depth, way),
-            w,
-            h,
-            n,
-            source,
-            links,
-            chain,
-            first,
-            second,
-        );
+        each_link(depth, way, w, h, source, all, links, first, second);
         return no;
     }
     no
 }
 
-// Erosion of the w x h picture in the source by each link of a chain in order, refused where the check of the element and the chain refuses it.
-// Results 1, 3 and 5 go to the first buffer, 2 and 4 to the second; `chain::last_picture` finds the last.
+// Erosion of the w x h picture in the source by each link of a chain in order,
+// refused where the check of the element and the chain refuses it.
+// Results 1, 3 and 5 go to the first buffer, 2 and 4 to the second; `last_picture` finds the last.
 pub fn erode(
     depth: Depth,
     w: usize,
@@ -149,13 +140,25 @@ pub fn erode(
     first: &mut [u8],
     second: &mut [u8],
 ) -> Answer
-    ensures answer { λ r. ⌜ told r ≡ runAnswer depth w h (now (source .entry)) (now (element .entry)) links (now (chain .entry)) (min (length (now (first .entry))) (length (now (second .entry)))) ⌝ }
-    ensures first { λ r. ⌜ now (first .exit) ≡ keptUnlessDone (told r) (now (first .entry)) (firstAfter depth w h (eroded depth w h (now (source .entry)) (now (chain .entry))) links (now (first .entry))) ⌝ }
-    ensures second { λ r. ⌜ now (second .exit) ≡ keptUnlessDone (told r) (now (second .entry)) (secondAfter depth w h (eroded depth w h (now (source .entry)) (now (chain .entry))) links (now (second .entry))) ⌝ }
+    ensures answer { λ r. ⌜
+        told r
+        ≡ runAnswer depth w h (now (source .entry)) (now (element .entry)) links (now (chain .entry))
+        (min (length (now (first .entry))) (length (now (second .entry)))) ⌝ }
+    ensures first { λ r. ⌜
+        now (first .exit)
+        ≡ unlessRefused (told r) (now (first .entry))
+        (firstAfter depth w h (eroded depth w h (now (source .entry)) (now (chain .entry)))
+        links (now (first .entry))) ⌝ }
+    ensures second { λ r. ⌜
+        now (second .exit)
+        ≡ unlessRefused (told r) (now (second .entry))
+        (secondAfter depth w h (eroded depth w h (now (source .entry)) (now (chain .entry)))
+        links (now (second .entry))) ⌝ }
 {
+    let way = Way::Erode;
     run(
         depth,
-        Way::Erode,
+        way,
         w,
         h,
         source,
@@ -179,13 +182,25 @@ pub fn dilate(
     first: &mut [u8],
     second: &mut [u8],
 ) -> Answer
-    ensures answer { λ r. ⌜ told r ≡ runAnswer depth w h (now (source .entry)) (now (element .entry)) links (now (chain .entry)) (min (length (now (first .entry))) (length (now (second .entry)))) ⌝ }
-    ensures first { λ r. ⌜ now (first .exit) ≡ keptUnlessDone (told r) (now (first .entry)) (firstAfter depth w h (dilated depth w h (now (source .entry)) (now (chain .entry))) links (now (first .entry))) ⌝ }
-    ensures second { λ r. ⌜ now (second .exit) ≡ keptUnlessDone (told r) (now (second .entry)) (secondAfter depth w h (dilated depth w h (now (source .entry)) (now (chain .entry))) links (now (second .entry))) ⌝ }
+    ensures answer { λ r. ⌜
+        told r
+        ≡ runAnswer depth w h (now (source .entry)) (now (element .entry)) links (now (chain .entry))
+        (min (length (now (first .entry))) (length (now (second .entry)))) ⌝ }
+    ensures first { λ r. ⌜
+        now (first .exit)
+        ≡ unlessRefused (told r) (now (first .entry))
+        (firstAfter depth w h (dilated depth w h (now (source .entry)) (now (chain .entry)))
+        links (now (first .entry))) ⌝ }
+    ensures second { λ r. ⌜
+        now (second .exit)
+        ≡ unlessRefused (told r) (now (second .entry))
+        (secondAfter depth w h (dilated depth w h (now (source .entry)) (now (chain .entry)))
+        links (now (second .entry))) ⌝ }
 {
+    let way = Way::Dilate;
     run(
         depth,
-        Way::Dilate,
+        way,
         w,
         h,
         source,
@@ -195,4 +210,36 @@ pub fn dilate(
         first,
         second,
     )
+}
+
+// The last picture of a chained run, its own bytes out of the two work buffers:
+// results 1, 3 and 5 went to the first, 2 and 4 to the second.
+pub fn last_picture<'a>(
+    first: &'a [u8],
+    second: &'a [u8],
+    depth: Depth,
+    w: usize,
+    h: usize,
+    links: usize,
+) -> &'a [u8]
+    ensures { λ r. ⌜ now r ≡ foundAt (now (first .entry)) (now (second .entry)) depth w h links ⌝ }
+{
+    if !picture::sized(w, h) {
+        return &first[..0];
+    }
+    if !chain::is_counted(links) {
+        return &first[..0];
+    }
+    let n = picture::picture_bytes(depth, w, h);
+    if first.len() < n {
+        return &first[..0];
+    }
+    if second.len() < n {
+        return &first[..0];
+    }
+    if links % 2 == 1 {
+        &first[..n]
+    } else {
+        &second[..n]
+    }
 }

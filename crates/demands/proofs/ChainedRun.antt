@@ -1,6 +1,8 @@
--- Chained runs. Demand 1: each number is given exactly where its test is the first to hold, and a refusal changes no byte of either buffer. Demand 3:
--- SPLIT names the first offset at which a lone echo is dilated differently. And where nothing is refused, the part that `chain::last_picture` picks of
--- the two buffers is, at each point, the element's own erosion or dilation.
+-- Chained runs. Demand 1: each number is given exactly where its test is the first to hold,
+-- and a refusal changes no byte of either buffer. Demand 3:
+-- SPLIT names the first offset at which a lone echo is dilated differently.
+-- And where nothing is refused, the part that `chained::last_picture` picks of the two buffers is,
+-- at each point, the element's own erosion or dilation.
 use mathlib.Core.Path.{_≡_}
 use mathlib.Core.Logic.{_↔_}
 use mathlib.Core.Bool.{true, false}
@@ -13,58 +15,76 @@ use Rattle.element.specs.Descriptor.{shapeIn}
 use Rattle.morphology.specs.Operations.{erode, dilate}
 use Rattle.morphology.specs.Chain.{First}
 use Rattle.morphology.specs.Demand.{Differs}
-use Rattle.operation.specs.Tests.{sourceTests}
+use Rattle.judge.specs.declared.Padding.the-variants.{Judged}
+use Rattle.judge.specs.Tests.{pictureTests}
 use Rattle.chain.specs.Reading.{linksIn}
-use Rattle.chain.specs.Finder.{foundAt}
+use Rattle.chained.specs.Finder.{foundAt}
 use Rattle.chained.proofs.erode.Kinds as erode-kinds
 use Rattle.chained.proofs.erode.Reads as erode-reads
 use Rattle.chained.proofs.dilate.Kinds as dilate-kinds
 use Rattle.chained.proofs.dilate.Reads as dilate-reads
 use Rattle.demands.specs.Demands.{Every, ExactlyNumbered, Kept, Shows}
-use Rattle.demands.proofs.Calls.{runCall, roomRun, testsRun}
+use Rattle.demands.proofs.RunArguments.{runCall, roomRun, testsRun}
 use Rattle.demands.proofs.Runs.{run-exactly, run-kept, run-split, run-shows}
-use Rattle.demands.proofs.Demand3.{WellMade, splitAt}
+use Rattle.demands.specs.Chains.{WellMade, splitAt}
 
-pub chained-erode-exactly : Every 5 erode-kinds.ps erode-kinds.r erode-reads.Learnt (λ κs a r e. let c = runCall κs a e in ExactlyNumbered (testsRun c) (told r))
+pub chained-erode-exactly : Every 5 erode-kinds.ps erode-kinds.r erode-reads.Learnt
+    (λ κs a r e. let c = runCall κs a e in ExactlyNumbered (testsRun c) (told r))
 chained-erode-exactly κs a r e p = run-exactly (runCall κs a e) (told r) (p .0)
 
-pub chained-erode-kept-first : Every 5 erode-kinds.ps erode-kinds.r erode-reads.Learnt (λ κs a r e. let c = runCall κs a e in Kept (testsRun c) (c .first) (c .first-after))
+pub chained-erode-kept-first : Every 5 erode-kinds.ps erode-kinds.r erode-reads.Learnt
+    (λ κs a r e. let c = runCall κs a e in Kept (testsRun c) (c .first) (c .first-after))
 chained-erode-kept-first κs a r e p = run-kept (runCall κs a e) (told r) (p .0) _ _ _ (p .1 .0)
 
-pub chained-erode-kept-second : Every 5 erode-kinds.ps erode-kinds.r erode-reads.Learnt (λ κs a r e. let c = runCall κs a e in Kept (testsRun c) (c .second) (c .second-after))
+pub chained-erode-kept-second : Every 5 erode-kinds.ps erode-kinds.r erode-reads.Learnt
+    (λ κs a r e. let c = runCall κs a e in Kept (testsRun c) (c .second) (c .second-after))
 chained-erode-kept-second κs a r e p = run-kept (runCall κs a e) (told r) (p .0) _ _ _ (p .1 .1)
 
 pub chained-erode-split : Every 5 erode-kinds.ps erode-kinds.r erode-reads.Learnt
     (λ κs a r e. let c = runCall κs a e in
-    (o : Offset) → (told r ≡ splitAt o) ↔ (NoneHolds (sourceTests (c .depth) (c .w) (c .h) (c .source)) × (WellMade (c .element) (c .links) (c .chain)
+    (o : Offset)
+    → (told r ≡ splitAt o)
+    ↔ (NoneHolds (pictureTests Judged (c .depth) (c .w) (c .h) (c .source))
+    × (WellMade (c .element) (c .links) (c .chain)
     × First (Differs (top (c .depth)) (shapeIn (c .element)) (linksIn (c .links) (c .chain))) o)))
 chained-erode-split κs a r e p =
-    let c = runCall κs a e in run-split (c .depth) (c .w) (c .h) (c .source) (c .element) (c .links) (c .chain) (roomRun c) r (p .0)
+    let c = runCall κs a e in
+    run-split (c .depth) (c .w) (c .h) (c .source) (c .element) (c .links) (c .chain) (roomRun c) r (p .0)
 
 pub chained-erode-shows : Every 5 erode-kinds.ps erode-kinds.r erode-reads.Learnt
     (λ κs a r e. let c = runCall κs a e in
-    Shows (testsRun c) (c .depth) (c .w) (c .h) (foundAt (c .first-after) (c .second-after) (c .depth) (c .w) (c .h) (c .links))
-    (erode (top (c .depth)) (frame (c .w) (c .h)) (shapeIn (c .element)) (valueAt (c .depth) (c .source) (c .w))))
+    Shows (testsRun c) (c .depth) (c .w) (c .h)
+    (foundAt (c .first-after) (c .second-after) (c .depth) (c .w) (c .h) (c .links))
+    (erode (top (c .depth)) (frame (c .w) (c .h))
+    (shapeIn (c .element)) (valueAt (c .depth) (c .source) (c .w))))
 chained-erode-shows κs a r e p = run-shows false (runCall κs a e) (told r) (p .0) (p .1 .0) (p .1 .1)
 
-pub chained-dilate-exactly : Every 5 dilate-kinds.ps dilate-kinds.r dilate-reads.Learnt (λ κs a r e. let c = runCall κs a e in ExactlyNumbered (testsRun c) (told r))
+pub chained-dilate-exactly : Every 5 dilate-kinds.ps dilate-kinds.r dilate-reads.Learnt
+    (λ κs a r e. let c = runCall κs a e in ExactlyNumbered (testsRun c) (told r))
 chained-dilate-exactly κs a r e p = run-exactly (runCall κs a e) (told r) (p .0)
 
-pub chained-dilate-kept-first : Every 5 dilate-kinds.ps dilate-kinds.r dilate-reads.Learnt (λ κs a r e. let c = runCall κs a e in Kept (testsRun c) (c .first) (c .first-after))
+pub chained-dilate-kept-first : Every 5 dilate-kinds.ps dilate-kinds.r dilate-reads.Learnt
+    (λ κs a r e. let c = runCall κs a e in Kept (testsRun c) (c .first) (c .first-after))
 chained-dilate-kept-first κs a r e p = run-kept (runCall κs a e) (told r) (p .0) _ _ _ (p .1 .0)
 
-pub chained-dilate-kept-second : Every 5 dilate-kinds.ps dilate-kinds.r dilate-reads.Learnt (λ κs a r e. let c = runCall κs a e in Kept (testsRun c) (c .second) (c .second-after))
+pub chained-dilate-kept-second : Every 5 dilate-kinds.ps dilate-kinds.r dilate-reads.Learnt
+    (λ κs a r e. let c = runCall κs a e in Kept (testsRun c) (c .second) (c .second-after))
 chained-dilate-kept-second κs a r e p = run-kept (runCall κs a e) (told r) (p .0) _ _ _ (p .1 .1)
 
 pub chained-dilate-split : Every 5 dilate-kinds.ps dilate-kinds.r dilate-reads.Learnt
     (λ κs a r e. let c = runCall κs a e in
-    (o : Offset) → (told r ≡ splitAt o) ↔ (NoneHolds (sourceTests (c .depth) (c .w) (c .h) (c .source)) × (WellMade (c .element) (c .links) (c .chain)
+    (o : Offset)
+    → (told r ≡ splitAt o)
+    ↔ (NoneHolds (pictureTests Judged (c .depth) (c .w) (c .h) (c .source))
+    × (WellMade (c .element) (c .links) (c .chain)
     × First (Differs (top (c .depth)) (shapeIn (c .element)) (linksIn (c .links) (c .chain))) o)))
 chained-dilate-split κs a r e p =
-    let c = runCall κs a e in run-split (c .depth) (c .w) (c .h) (c .source) (c .element) (c .links) (c .chain) (roomRun c) r (p .0)
+    let c = runCall κs a e in
+    run-split (c .depth) (c .w) (c .h) (c .source) (c .element) (c .links) (c .chain) (roomRun c) r (p .0)
 
 pub chained-dilate-shows : Every 5 dilate-kinds.ps dilate-kinds.r dilate-reads.Learnt
     (λ κs a r e. let c = runCall κs a e in
-    Shows (testsRun c) (c .depth) (c .w) (c .h) (foundAt (c .first-after) (c .second-after) (c .depth) (c .w) (c .h) (c .links))
+    Shows (testsRun c) (c .depth) (c .w) (c .h)
+    (foundAt (c .first-after) (c .second-after) (c .depth) (c .w) (c .h) (c .links))
     (dilate (frame (c .w) (c .h)) (shapeIn (c .element)) (valueAt (c .depth) (c .source) (c .w))))
 chained-dilate-shows κs a r e p = run-shows true (runCall κs a e) (told r) (p .0) (p .1 .0) (p .1 .1)

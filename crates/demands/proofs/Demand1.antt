@@ -1,5 +1,6 @@
--- Demand 1: every input gets exactly one answer, and which; and a refusal changes no lent byte. That there is an answer at all, the prover has
--- it: no function here asks anything of its caller. That there are not two: proofs/Settled.antt of crates flat, hit and weighted.
+-- Demand 1: every input gets exactly one answer, and which; and a refusal changes no lent byte.
+-- That there is an answer at all, the prover has it: no function here asks anything of its caller.
+-- That there are not two: proofs/Settled.antt of crates flat, hit and weighted.
 use Prim.Native.Nat.{min}
 use mathlib.Core.Logic.{_↔_}
 use lib.Dec.{T}
@@ -9,7 +10,6 @@ use Rattle.element.specs.Shape.{Shape, Offset}
 use Rattle.morphology.specs.Step.{Has}
 use Rattle.morphology.specs.Overlap.{shared}
 use Rattle.morphology.proofs.Overlap.{shared-sound, shared-complete}
-use Rattle.hit.proofs.Pair.{hit-numbered}
 use Rattle.flat.proofs.erode.Kinds as erode-kinds
 use Rattle.flat.proofs.erode.Reads as erode-reads
 use Rattle.flat.proofs.dilate.Kinds as dilate-kinds
@@ -30,80 +30,155 @@ use Rattle.weighted.proofs.close.Kinds as weighted-close-kinds
 use Rattle.weighted.proofs.close.Reads as weighted-close-reads
 use Rattle.demands.specs.Demands.{Every, Exactly, Kept}
 use Rattle.demands.proofs.Laws.{exactly-of, kept-of}
-use Rattle.demands.proofs.Calls.{tests-numbered, call, testsOnce, twice, testsTwice, hitCall, testsHit, weightedCall, weightedOnce, weightedTwice, weightedBoth, weighted-tests-numbered}
+use Rattle.demands.proofs.Arguments.{tests-numbered, call, testsOnce, twice, testsTwice, hitCall}
+use Rattle.demands.proofs.Arguments.{testsHit, weightedCall, weightedOnce, weightedTwice}
+use Rattle.demands.proofs.Arguments.{weightedBoth, weighted-tests-numbered, hit-tests-numbered}
 
-pub erode-exactly : Every 3 erode-kinds.ps erode-kinds.r erode-reads.Learnt (λ κs a r e. let c = call κs a e in Exactly (testsOnce c) (told r))
-erode-exactly κs a r e p = let c = call κs a e in exactly-of (testsOnce c) (told r) (tests-numbered c (length (c .before))) (p .0)
+pub erode-exactly : Every 3 erode-kinds.ps erode-kinds.r erode-reads.Learnt
+    (λ κs a r e. let c = call κs a e in Exactly (testsOnce c) (told r))
+erode-exactly κs a r e p = let c = call κs a e in
+    exactly-of (testsOnce c) (told r) (tests-numbered c (length (c .before))) (p .0)
 
-pub erode-kept : Every 3 erode-kinds.ps erode-kinds.r erode-reads.Learnt (λ κs a r e. let c = call κs a e in Kept (testsOnce c) (c .before) (c .after))
-erode-kept κs a r e p = kept-of (testsOnce (call κs a e)) _ _ _ (p .1)
+pub erode-kept : Every 3 erode-kinds.ps erode-kinds.r erode-reads.Learnt
+    (λ κs a r e. let c = call κs a e in Kept (testsOnce c) (c .before) (c .after))
+erode-kept κs a r e p =
+    kept-of (testsOnce (call κs a e)) _ _ _
+    (let c = call κs a e in tests-numbered c (length (c .before))) (p .1)
 
-pub dilate-exactly : Every 3 dilate-kinds.ps dilate-kinds.r dilate-reads.Learnt (λ κs a r e. let c = call κs a e in Exactly (testsOnce c) (told r))
-dilate-exactly κs a r e p = let c = call κs a e in exactly-of (testsOnce c) (told r) (tests-numbered c (length (c .before))) (p .0)
+pub dilate-exactly : Every 3 dilate-kinds.ps dilate-kinds.r dilate-reads.Learnt
+    (λ κs a r e. let c = call κs a e in Exactly (testsOnce c) (told r))
+dilate-exactly κs a r e p = let c = call κs a e in
+    exactly-of (testsOnce c) (told r) (tests-numbered c (length (c .before))) (p .0)
 
-pub dilate-kept : Every 3 dilate-kinds.ps dilate-kinds.r dilate-reads.Learnt (λ κs a r e. let c = call κs a e in Kept (testsOnce c) (c .before) (c .after))
-dilate-kept κs a r e p = kept-of (testsOnce (call κs a e)) _ _ _ (p .1)
+pub dilate-kept : Every 3 dilate-kinds.ps dilate-kinds.r dilate-reads.Learnt
+    (λ κs a r e. let c = call κs a e in Kept (testsOnce c) (c .before) (c .after))
+dilate-kept κs a r e p =
+    kept-of (testsOnce (call κs a e)) _ _ _
+    (let c = call κs a e in tests-numbered c (length (c .before))) (p .1)
 
-pub open-exactly : Every 4 open-kinds.ps open-kinds.r open-reads.Learnt (λ κs a r e. let c = twice κs a e in Exactly (testsTwice c) (told r))
-open-exactly κs a r e p = let c = twice κs a e in exactly-of (testsTwice c) (told r) (tests-numbered (c .to-target) (min (length (c .to-target .before)) (length (c .before)))) (p .0)
+pub open-exactly : Every 4 open-kinds.ps open-kinds.r open-reads.Learnt
+    (λ κs a r e. let c = twice κs a e in Exactly (testsTwice c) (told r))
+open-exactly κs a r e p = let c = twice κs a e in
+    exactly-of (testsTwice c) (told r)
+    (tests-numbered (c .to-target) (min (length (c .to-target .before)) (length (c .before)))) (p .0)
 
-pub open-kept : Every 4 open-kinds.ps open-kinds.r open-reads.Learnt (λ κs a r e. let c = twice κs a e in Kept (testsTwice c) (c .to-target .before) (c .to-target .after))
-open-kept κs a r e p = kept-of (testsTwice (twice κs a e)) _ _ _ (p .1 .0)
+pub open-kept : Every 4 open-kinds.ps open-kinds.r open-reads.Learnt
+    (λ κs a r e. let c = twice κs a e in Kept (testsTwice c) (c .to-target .before) (c .to-target .after))
+open-kept κs a r e p =
+    kept-of (testsTwice (twice κs a e)) _ _ _
+    (let c = twice κs a e in
+    tests-numbered (c .to-target) (min (length (c .to-target .before)) (length (c .before)))) (p .1 .0)
 
-pub open-kept-scratch : Every 4 open-kinds.ps open-kinds.r open-reads.Learnt (λ κs a r e. let c = twice κs a e in Kept (testsTwice c) (c .before) (c .after))
-open-kept-scratch κs a r e p = kept-of (testsTwice (twice κs a e)) _ _ _ (p .1 .1)
+pub open-kept-scratch : Every 4 open-kinds.ps open-kinds.r open-reads.Learnt
+    (λ κs a r e. let c = twice κs a e in Kept (testsTwice c) (c .before) (c .after))
+open-kept-scratch κs a r e p =
+    kept-of (testsTwice (twice κs a e)) _ _ _
+    (let c = twice κs a e in
+    tests-numbered (c .to-target) (min (length (c .to-target .before)) (length (c .before)))) (p .1 .1)
 
-pub close-exactly : Every 4 close-kinds.ps close-kinds.r close-reads.Learnt (λ κs a r e. let c = twice κs a e in Exactly (testsTwice c) (told r))
-close-exactly κs a r e p = let c = twice κs a e in exactly-of (testsTwice c) (told r) (tests-numbered (c .to-target) (min (length (c .to-target .before)) (length (c .before)))) (p .0)
+pub close-exactly : Every 4 close-kinds.ps close-kinds.r close-reads.Learnt
+    (λ κs a r e. let c = twice κs a e in Exactly (testsTwice c) (told r))
+close-exactly κs a r e p = let c = twice κs a e in
+    exactly-of (testsTwice c) (told r)
+    (tests-numbered (c .to-target) (min (length (c .to-target .before)) (length (c .before)))) (p .0)
 
-pub close-kept : Every 4 close-kinds.ps close-kinds.r close-reads.Learnt (λ κs a r e. let c = twice κs a e in Kept (testsTwice c) (c .to-target .before) (c .to-target .after))
-close-kept κs a r e p = kept-of (testsTwice (twice κs a e)) _ _ _ (p .1 .0)
+pub close-kept : Every 4 close-kinds.ps close-kinds.r close-reads.Learnt
+    (λ κs a r e. let c = twice κs a e in Kept (testsTwice c) (c .to-target .before) (c .to-target .after))
+close-kept κs a r e p =
+    kept-of (testsTwice (twice κs a e)) _ _ _
+    (let c = twice κs a e in
+    tests-numbered (c .to-target) (min (length (c .to-target .before)) (length (c .before)))) (p .1 .0)
 
-pub close-kept-scratch : Every 4 close-kinds.ps close-kinds.r close-reads.Learnt (λ κs a r e. let c = twice κs a e in Kept (testsTwice c) (c .before) (c .after))
-close-kept-scratch κs a r e p = kept-of (testsTwice (twice κs a e)) _ _ _ (p .1 .1)
+pub close-kept-scratch : Every 4 close-kinds.ps close-kinds.r close-reads.Learnt
+    (λ κs a r e. let c = twice κs a e in Kept (testsTwice c) (c .before) (c .after))
+close-kept-scratch κs a r e p =
+    kept-of (testsTwice (twice κs a e)) _ _ _
+    (let c = twice κs a e in
+    tests-numbered (c .to-target) (min (length (c .to-target .before)) (length (c .before)))) (p .1 .1)
 
-pub hit-or-miss-exactly : Every 4 hit-or-miss-kinds.ps hit-or-miss-kinds.r hit-or-miss-reads.Learnt (λ κs a r e. let c = hitCall κs a e in Exactly (testsHit c) (told r))
+pub hit-or-miss-exactly : Every 4 hit-or-miss-kinds.ps hit-or-miss-kinds.r
+    hit-or-miss-reads.Learnt (λ κs a r e. let c = hitCall κs a e in Exactly (testsHit c) (told r))
 hit-or-miss-exactly κs a r e p =
     let c = hitCall κs a e in
-    exactly-of (testsHit c) (told r) (hit-numbered (c .w) (c .h) (c .source) (c .hit) (c .miss) (length (c .before))) (p .0)
+    exactly-of (testsHit c) (told r) (hit-tests-numbered c) (p .0)
 
-pub hit-or-miss-kept : Every 4 hit-or-miss-kinds.ps hit-or-miss-kinds.r hit-or-miss-reads.Learnt (λ κs a r e. let c = hitCall κs a e in Kept (testsHit c) (c .before) (c .after))
-hit-or-miss-kept κs a r e p = kept-of (testsHit (hitCall κs a e)) _ _ _ (p .1)
+pub hit-or-miss-kept : Every 4 hit-or-miss-kinds.ps hit-or-miss-kinds.r hit-or-miss-reads.Learnt
+    (λ κs a r e. let c = hitCall κs a e in Kept (testsHit c) (c .before) (c .after))
+hit-or-miss-kept κs a r e p =
+    kept-of (testsHit (hitCall κs a e)) _ _ _
+    (let c = hitCall κs a e in hit-tests-numbered c) (p .1)
 
 -- the weighted operations
-pub weighted-erode-exactly : Every 3 weighted-erode-kinds.ps weighted-erode-kinds.r weighted-erode-reads.Learnt (λ κs a r e. let c = weightedCall κs a e in Exactly (weightedOnce c) (told r))
-weighted-erode-exactly κs a r e p = let c = weightedCall κs a e in exactly-of (weightedOnce c) (told r) (weighted-tests-numbered c (length (c .before))) (p .0)
+pub weighted-erode-exactly : Every 3 weighted-erode-kinds.ps weighted-erode-kinds.r
+    weighted-erode-reads.Learnt (λ κs a r e. let c = weightedCall κs a e in Exactly (weightedOnce c) (told r))
+weighted-erode-exactly κs a r e p = let c = weightedCall κs a e in
+    exactly-of (weightedOnce c) (told r) (weighted-tests-numbered c (length (c .before))) (p .0)
 
-pub weighted-erode-kept : Every 3 weighted-erode-kinds.ps weighted-erode-kinds.r weighted-erode-reads.Learnt (λ κs a r e. let c = weightedCall κs a e in Kept (weightedOnce c) (c .before) (c .after))
-weighted-erode-kept κs a r e p = kept-of (weightedOnce (weightedCall κs a e)) _ _ _ (p .1)
+pub weighted-erode-kept : Every 3 weighted-erode-kinds.ps weighted-erode-kinds.r weighted-erode-reads.Learnt
+    (λ κs a r e. let c = weightedCall κs a e in Kept (weightedOnce c) (c .before) (c .after))
+weighted-erode-kept κs a r e p =
+    kept-of (weightedOnce (weightedCall κs a e)) _ _ _
+    (let c = weightedCall κs a e in weighted-tests-numbered c (length (c .before))) (p .1)
 
-pub weighted-dilate-exactly : Every 3 weighted-dilate-kinds.ps weighted-dilate-kinds.r weighted-dilate-reads.Learnt (λ κs a r e. let c = weightedCall κs a e in Exactly (weightedOnce c) (told r))
-weighted-dilate-exactly κs a r e p = let c = weightedCall κs a e in exactly-of (weightedOnce c) (told r) (weighted-tests-numbered c (length (c .before))) (p .0)
+pub weighted-dilate-exactly : Every 3 weighted-dilate-kinds.ps
+    weighted-dilate-kinds.r weighted-dilate-reads.Learnt
+    (λ κs a r e. let c = weightedCall κs a e in Exactly (weightedOnce c) (told r))
+weighted-dilate-exactly κs a r e p = let c = weightedCall κs a e in
+    exactly-of (weightedOnce c) (told r) (weighted-tests-numbered c (length (c .before))) (p .0)
 
-pub weighted-dilate-kept : Every 3 weighted-dilate-kinds.ps weighted-dilate-kinds.r weighted-dilate-reads.Learnt (λ κs a r e. let c = weightedCall κs a e in Kept (weightedOnce c) (c .before) (c .after))
-weighted-dilate-kept κs a r e p = kept-of (weightedOnce (weightedCall κs a e)) _ _ _ (p .1)
+pub weighted-dilate-kept : Every 3 weighted-dilate-kinds.ps
+    weighted-dilate-kinds.r weighted-dilate-reads.Learnt
+    (λ κs a r e. let c = weightedCall κs a e in Kept (weightedOnce c) (c .before) (c .after))
+weighted-dilate-kept κs a r e p =
+    kept-of (weightedOnce (weightedCall κs a e)) _ _ _
+    (let c = weightedCall κs a e in weighted-tests-numbered c (length (c .before))) (p .1)
 
-pub weighted-open-exactly : Every 4 weighted-open-kinds.ps weighted-open-kinds.r weighted-open-reads.Learnt (λ κs a r e. let c = weightedTwice κs a e in Exactly (weightedBoth c) (told r))
+pub weighted-open-exactly : Every 4 weighted-open-kinds.ps weighted-open-kinds.r weighted-open-reads.Learnt
+    (λ κs a r e. let c = weightedTwice κs a e in Exactly (weightedBoth c) (told r))
 weighted-open-exactly κs a r e p =
     let c = weightedTwice κs a e in
-    exactly-of (weightedBoth c) (told r) (weighted-tests-numbered (c .to-target) (min (length (c .to-target .before)) (length (c .before)))) (p .0)
+    exactly-of (weightedBoth c) (told r)
+    (weighted-tests-numbered (c .to-target) (min (length (c .to-target .before)) (length (c .before)))) (p .0)
 
-pub weighted-open-kept : Every 4 weighted-open-kinds.ps weighted-open-kinds.r weighted-open-reads.Learnt (λ κs a r e. let c = weightedTwice κs a e in Kept (weightedBoth c) (c .to-target .before) (c .to-target .after))
-weighted-open-kept κs a r e p = kept-of (weightedBoth (weightedTwice κs a e)) _ _ _ (p .1 .0)
+pub weighted-open-kept : Every 4 weighted-open-kinds.ps weighted-open-kinds.r weighted-open-reads.Learnt
+    (λ κs a r e. let c = weightedTwice κs a e in
+    Kept (weightedBoth c) (c .to-target .before) (c .to-target .after))
+weighted-open-kept κs a r e p =
+    kept-of (weightedBoth (weightedTwice κs a e)) _ _ _
+    (let c = weightedTwice κs a e in weighted-tests-numbered (c .to-target)
+    (min (length (c .to-target .before)) (length (c .before)))) (p .1 .0)
 
-pub weighted-open-kept-scratch : Every 4 weighted-open-kinds.ps weighted-open-kinds.r weighted-open-reads.Learnt (λ κs a r e. let c = weightedTwice κs a e in Kept (weightedBoth c) (c .before) (c .after))
-weighted-open-kept-scratch κs a r e p = kept-of (weightedBoth (weightedTwice κs a e)) _ _ _ (p .1 .1)
+pub weighted-open-kept-scratch : Every 4 weighted-open-kinds.ps
+    weighted-open-kinds.r weighted-open-reads.Learnt
+    (λ κs a r e. let c = weightedTwice κs a e in Kept (weightedBoth c) (c .before) (c .after))
+weighted-open-kept-scratch κs a r e p =
+    kept-of (weightedBoth (weightedTwice κs a e)) _ _ _
+    (let c = weightedTwice κs a e in weighted-tests-numbered (c .to-target)
+    (min (length (c .to-target .before)) (length (c .before)))) (p .1 .1)
 
-pub weighted-close-exactly : Every 4 weighted-close-kinds.ps weighted-close-kinds.r weighted-close-reads.Learnt (λ κs a r e. let c = weightedTwice κs a e in Exactly (weightedBoth c) (told r))
+pub weighted-close-exactly : Every 4 weighted-close-kinds.ps
+    weighted-close-kinds.r weighted-close-reads.Learnt
+    (λ κs a r e. let c = weightedTwice κs a e in Exactly (weightedBoth c) (told r))
 weighted-close-exactly κs a r e p =
     let c = weightedTwice κs a e in
-    exactly-of (weightedBoth c) (told r) (weighted-tests-numbered (c .to-target) (min (length (c .to-target .before)) (length (c .before)))) (p .0)
+    exactly-of (weightedBoth c) (told r)
+    (weighted-tests-numbered (c .to-target) (min (length (c .to-target .before)) (length (c .before)))) (p .0)
 
-pub weighted-close-kept : Every 4 weighted-close-kinds.ps weighted-close-kinds.r weighted-close-reads.Learnt (λ κs a r e. let c = weightedTwice κs a e in Kept (weightedBoth c) (c .to-target .before) (c .to-target .after))
-weighted-close-kept κs a r e p = kept-of (weightedBoth (weightedTwice κs a e)) _ _ _ (p .1 .0)
+pub weighted-close-kept : Every 4 weighted-close-kinds.ps weighted-close-kinds.r weighted-close-reads.Learnt
+    (λ κs a r e. let c = weightedTwice κs a e in
+    Kept (weightedBoth c) (c .to-target .before) (c .to-target .after))
+weighted-close-kept κs a r e p =
+    kept-of (weightedBoth (weightedTwice κs a e)) _ _ _
+    (let c = weightedTwice κs a e in weighted-tests-numbered (c .to-target)
+    (min (length (c .to-target .before)) (length (c .before)))) (p .1 .0)
 
-pub weighted-close-kept-scratch : Every 4 weighted-close-kinds.ps weighted-close-kinds.r weighted-close-reads.Learnt (λ κs a r e. let c = weightedTwice κs a e in Kept (weightedBoth c) (c .before) (c .after))
-weighted-close-kept-scratch κs a r e p = kept-of (weightedBoth (weightedTwice κs a e)) _ _ _ (p .1 .1)
+pub weighted-close-kept-scratch : Every 4 weighted-close-kinds.ps
+    weighted-close-kinds.r weighted-close-reads.Learnt
+    (λ κs a r e. let c = weightedTwice κs a e in Kept (weightedBoth c) (c .before) (c .after))
+weighted-close-kept-scratch κs a r e p =
+    kept-of (weightedBoth (weightedTwice κs a e)) _ _ _
+    (let c = weightedTwice κs a e in weighted-tests-numbered (c .to-target)
+    (min (length (c .to-target .before)) (length (c .before)))) (p .1 .1)
 
 -- OVERLAP is given where some offset is one of both elements: the test holds exactly there
 pub overlap-exactly : (B C : Shape) → T (shared B C) ↔ ((o : Offset) × (Has B o × Has C o))

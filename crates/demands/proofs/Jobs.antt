@@ -1,7 +1,8 @@
--- Demands 1 and 2 of echtext's work: which refusal is printed, and that what is printed else is the text of the operation's definition.
+-- Demands 1 and 2 of echtext's work: which refusal is printed,
+-- and that what is printed else is the text of the operation's definition.
 use Prim.Native.Nat.{ℕ, _≤_, _<_}
-use mathlib.Core.Path.{_≡_, ap, ap₂, _∙_}
-use mathlib.Core.Bool.{Bool, false, cond, _||_}
+use mathlib.Core.Path.{_≡_, refl, sym, ap, ap₂, _∙_}
+use mathlib.Core.Bool.{false, cond, _||_}
 use mathlib.Core.List.{List, [], _∷_}
 use borrow.Author.Tests.{ne-eqb, le-ltb}
 use borrow.Fn.Kinds.{Dens, endedOf}
@@ -13,15 +14,16 @@ use Rattle.answer.specs.declared.Told.{Told}
 use Rattle.answer.specs.Answer.{told, plain, isDone}
 use Rattle.answer.specs.Refuse.{Test, FirstHolds, here, later, NoneHolds}
 use Rattle.answer.proofs.Order.{Numbered, exactly, done-exactly}
-use Rattle.answer.proofs.Lent.{not-done, all-done}
+use Rattle.answer.specs.Lent.{unlessRefused}
+use Rattle.answer.proofs.Lent.{not-done, all-done, kept-by}
 use Rattle.element.specs.Descriptor.{shapeIn}
 use Rattle.ech.specs.File.{depthOf, kindOf, pingsOf, binsOf}
-use Rattle.ech.specs.Calls.{pictureOf}
+use Rattle.ech.specs.ReadWrite.{pictureOf}
 use Rattle.text.specs.Text.{textOf, refusedLine}
-use Rattle.job.specs.declared.Operation.{Operation}
-use Rattle.job.specs.Parts.{letterOf, operationOf, elementIn, fileIn}
-use Rattle.job.specs.Work.{jobTests, shortest, jobAnswer, operated, textIn}
-use Rattle.job.specs.Prints.{mostRefused, refusalOf, printed, over, pictureAfter, resultAfter, scratchAfter}
+use Rattle.work.specs.declared.Operation.{Operation}
+use Rattle.job.specs.Job.{letterOf, operationOf, elementIn, fileIn, jobTests, jobAnswer}
+use Rattle.work.specs.Work.{shortest, operated, textIn}
+use Rattle.work.specs.Prints.{mostRefused, refusalOf, printed, over, pictureAfter, resultAfter, scratchAfter}
 use Rattle.job.proofs.run_job.Kinds as kinds
 use Rattle.job.proofs.run_job.Reads as reads
 use Rattle.demands.specs.Demands.{Every, Exactly, Kept}
@@ -57,13 +59,20 @@ abbrev pub tests : JobCall → List Test
 tests c = jobTests (c .job) (shortest (c .picture) (c .result) (c .scratch)) (length (c .text))
 
 numbered : (c : JobCall) → Numbered (tests c)
-numbered c = (lit< tt, (lit< tt, (lit< tt, (lit< tt, (lit< tt, (lit< tt, (lit< tt, (lit< tt, (lit< tt, (lit< tt, (lit< tt, tt)))))))))))
+numbered c = (
+  lit< tt,
+  (
+    lit< tt,
+    (lit< tt, (lit< tt, (lit< tt, (lit< tt, (lit< tt, (lit< tt, (lit< tt, (lit< tt, (lit< tt, tt))))))))),
+  ),
+)
 
 -- the text of the operation that the letter asks for, by the job's element, of the file's picture
 abbrev pub textOfJob : List ℕ → List ℕ
 textOfJob job =
     textOf (depthOf (kindOf (fileIn job)))
-    (operated (operationOf (letterOf job)) (depthOf (kindOf (fileIn job))) (pingsOf (fileIn job)) (binsOf (fileIn job)) (shapeIn (elementIn job)) (pictureOf (fileIn job)))
+    (operated (operationOf (letterOf job)) (depthOf (kindOf (fileIn job))) (pingsOf (fileIn job))
+    (binsOf (fileIn job)) (shapeIn (elementIn job)) (pictureOf (fileIn job)))
     (pingsOf (fileIn job)) (binsOf (fileIn job)) (kindOf (fileIn job))
 
 -- ---- the first test that holds has a number, and then the answer is a refusal
@@ -87,69 +96,98 @@ module _ (c : JobCall) where
   done-is f = done-exactly (tests c) (numbered c) .1 f
 
   line-is : (n : ℕ) → FirstHolds (tests c) n → (n ≡ 8 → ⊥) → mostRefused ≤ length (c .text)
-      → printed answer (operationOf (letterOf (c .job))) (elementIn (c .job)) (fileIn (c .job)) (length (c .text)) ≡ refusedLine n
+      → printed answer (operationOf (letterOf (c .job)))
+      (elementIn (c .job)) (fileIn (c .job)) (length (c .text))
+      ≡ refusedLine n
   unfolding printed refusalOf plain
   line-is n f ne l =
-      ap (λ b. cond b (textIn (operationOf (letterOf (c .job))) (elementIn (c .job)) (fileIn (c .job))) (refusalOf answer (length (c .text)))) (refused-not n f)
+      ap (λ b. cond b (textIn (operationOf (letterOf (c .job))) (elementIn (c .job)) (fileIn (c .job)))
+      (refusalOf answer (length (c .text)))) (refused-not n f)
       ∙ ap (λ a. refusalOf a (length (c .text))) (refused-is n f)
-      ∙ ap₂ (λ a b. cond (a || b) [] (refusedLine n)) (ne-eqb n 8 ne) (le-ltb (length (c .text)) mostRefused l)
+      ∙ ap₂ (λ a b. cond (a || b) [] (refusedLine n))
+      (ne-eqb n 8 ne) (le-ltb (length (c .text)) mostRefused l)
 
-  none-is : FirstHolds (tests c) 8 → printed answer (operationOf (letterOf (c .job))) (elementIn (c .job)) (fileIn (c .job)) (length (c .text)) ≡ []
+  none-is : FirstHolds (tests c) 8
+      → printed answer (operationOf (letterOf (c .job)))
+      (elementIn (c .job)) (fileIn (c .job)) (length (c .text))
+      ≡ []
   unfolding printed refusalOf plain
   none-is f =
-      ap (λ b. cond b (textIn (operationOf (letterOf (c .job))) (elementIn (c .job)) (fileIn (c .job))) (refusalOf answer (length (c .text)))) (refused-not 8 f)
+      ap (λ b. cond b (textIn (operationOf (letterOf (c .job))) (elementIn (c .job)) (fileIn (c .job)))
+      (refusalOf answer (length (c .text)))) (refused-not 8 f)
       ∙ ap (λ a. refusalOf a (length (c .text))) (refused-is 8 f)
 
-  text-is : NoneHolds (tests c) → printed answer (operationOf (letterOf (c .job))) (elementIn (c .job)) (fileIn (c .job)) (length (c .text)) ≡ textOfJob (c .job)
+  text-is : NoneHolds (tests c)
+      → printed answer (operationOf (letterOf (c .job)))
+      (elementIn (c .job)) (fileIn (c .job)) (length (c .text))
+      ≡ textOfJob (c .job)
   unfolding printed textIn
-  text-is f = ap (λ b. cond b (textOfJob (c .job)) (refusalOf answer (length (c .text)))) (ap isDone (done-is f) ∙ all-done)
+  text-is f =
+      ap (λ b. cond b (textOfJob (c .job)) (refusalOf answer (length (c .text))))
+      (ap isDone (done-is f) ∙ all-done)
 
 -- a buffer by an answer that is a refusal
-was : (b : Bool) (x y : List ℕ) → b ≡ false → cond b x y ≡ y
-was b x y e = ap (λ b. cond b x y) e
+was : (a : Told) (l made : List ℕ) → isDone a ≡ false → unlessRefused a l made ≡ l
+was a l made e = sym (kept-by l made a a refl e)
 
 module _ (a : Told) (op : Operation) (d f l : List ℕ) (e : isDone a ≡ false) where
   picture-was : pictureAfter a f l ≡ l
   unfolding pictureAfter
-  picture-was = was (isDone a) _ l e
+  picture-was = was a l _ e
 
   result-was : resultAfter a op d f l ≡ l
   unfolding resultAfter
-  result-was = was (isDone a) _ l e
+  result-was = was a l _ e
 
   scratch-was : scratchAfter a op d f l ≡ l
   unfolding scratchAfter
-  scratch-was = was (isDone a) _ l e
+  scratch-was = was a l _ e
 
 -- the same of what is given back and of the text
 prints : (l k t t' : List ℕ) (n : ℕ) → l ≡ k → n ≡ length l → t' ≡ over l t → (n ≡ length k) × (t' ≡ over k t)
 prints l k t t' n e en et = (en ∙ ap length e, et ∙ ap (λ l. over l t) e)
 
--- ---- demand 1: each refusal exactly under its condition and none earlier in the order, and no work buffer is changed by one
-pub job-exactly : Every 5 kinds.ps kinds.r reads.Learnt (λ κs a r e. Exactly (tests (jobCall κs a e)) (told (r .answer)))
+-- ---- demand 1: each refusal exactly under its condition and none earlier in the order,
+-- and no work buffer is changed by one
+pub job-exactly : Every 5 kinds.ps kinds.r reads.Learnt
+    (λ κs a r e. Exactly (tests (jobCall κs a e)) (told (r .answer)))
 unfolding jobAnswer
 job-exactly κs a r e p = let c = jobCall κs a e in exactly-of (tests c) (told (r .answer)) (numbered c) (p .0)
 
-pub job-kept-picture : Every 5 kinds.ps kinds.r reads.Learnt (λ κs a r e. let c = jobCall κs a e in Kept (tests c) (c .picture) (c .picture-after))
-job-kept-picture κs a r e p n f = let c = jobCall κs a e in p .1 .1 .0 ∙ picture-was _ (operationOf (letterOf (c .job))) (elementIn (c .job)) _ (c .picture) (refused-not c n f)
+pub job-kept-picture : Every 5 kinds.ps kinds.r reads.Learnt
+    (λ κs a r e. let c = jobCall κs a e in Kept (tests c) (c .picture) (c .picture-after))
+job-kept-picture κs a r e p n f = let c = jobCall κs a e in
+    p .1 .1 .0
+    ∙ picture-was _ (operationOf (letterOf (c .job))) (elementIn (c .job)) _ (c .picture) (refused-not c n f)
 
-pub job-kept-result : Every 5 kinds.ps kinds.r reads.Learnt (λ κs a r e. let c = jobCall κs a e in Kept (tests c) (c .result) (c .result-after))
-job-kept-result κs a r e p n f = let c = jobCall κs a e in p .1 .1 .1 .0 ∙ result-was _ (operationOf (letterOf (c .job))) (elementIn (c .job)) _ (c .result) (refused-not c n f)
+pub job-kept-result : Every 5 kinds.ps kinds.r reads.Learnt
+    (λ κs a r e. let c = jobCall κs a e in Kept (tests c) (c .result) (c .result-after))
+job-kept-result κs a r e p n f = let c = jobCall κs a e in
+    p .1 .1 .1 .0
+    ∙ result-was _ (operationOf (letterOf (c .job))) (elementIn (c .job)) _ (c .result) (refused-not c n f)
 
-pub job-kept-scratch : Every 5 kinds.ps kinds.r reads.Learnt (λ κs a r e. let c = jobCall κs a e in Kept (tests c) (c .scratch) (c .scratch-after))
-job-kept-scratch κs a r e p n f = let c = jobCall κs a e in p .1 .1 .1 .1 .0 ∙ scratch-was _ (operationOf (letterOf (c .job))) (elementIn (c .job)) _ (c .scratch) (refused-not c n f)
+pub job-kept-scratch : Every 5 kinds.ps kinds.r reads.Learnt
+    (λ κs a r e. let c = jobCall κs a e in Kept (tests c) (c .scratch) (c .scratch-after))
+job-kept-scratch κs a r e p n f = let c = jobCall κs a e in
+    p .1 .1 .1 .1 .0
+    ∙ scratch-was _ (operationOf (letterOf (c .job))) (elementIn (c .job)) _ (c .scratch) (refused-not c n f)
 
 -- a refusal prints only its line
 pub job-prints-refusal : Every 5 kinds.ps kinds.r reads.Learnt (λ κs a r e. let c = jobCall κs a e in
-    (n : ℕ) → FirstHolds (tests c) n → (n ≡ 8 → ⊥) → mostRefused ≤ length (c .text) → (r .printed ≡ length (refusedLine n)) × (c .text-after ≡ over (refusedLine n) (c .text)))
-job-prints-refusal κs a r e p n f ne l = let c = jobCall κs a e in prints _ _ (c .text) (c .text-after) (r .printed) (line-is c n f ne l) (p .1 .0) (p .1 .1 .1 .1 .1)
+    (n : ℕ) → FirstHolds (tests c) n → (n ≡ 8 → ⊥) → mostRefused ≤ length (c .text)
+    → (r .printed ≡ length (refusedLine n)) × (c .text-after ≡ over (refusedLine n) (c .text)))
+job-prints-refusal κs a r e p n f ne l = let c = jobCall κs a e in
+    prints _ _ (c .text) (c .text-after) (r .printed) (line-is c n f ne l) (p .1 .0) (p .1 .1 .1 .1 .1)
 
 -- and ROOM nothing at all
 pub job-room : Every 5 kinds.ps kinds.r reads.Learnt (λ κs a r e. let c = jobCall κs a e in
     FirstHolds (tests c) 8 → (r .printed ≡ 0) × (c .text-after ≡ c .text))
-job-room κs a r e p f = let c = jobCall κs a e in prints _ _ (c .text) (c .text-after) (r .printed) (none-is c f) (p .1 .0) (p .1 .1 .1 .1 .1)
+job-room κs a r e p f = let c = jobCall κs a e in
+    prints _ _ (c .text) (c .text-after) (r .printed) (none-is c f) (p .1 .0) (p .1 .1 .1 .1 .1)
 
 -- ---- demand 2: where nothing is refused, what is printed is the text of the definition's result
 pub job-prints : Every 5 kinds.ps kinds.r reads.Learnt (λ κs a r e. let c = jobCall κs a e in
-    NoneHolds (tests c) → (r .printed ≡ length (textOfJob (c .job))) × (c .text-after ≡ over (textOfJob (c .job)) (c .text)))
-job-prints κs a r e p f = let c = jobCall κs a e in prints _ _ (c .text) (c .text-after) (r .printed) (text-is c f) (p .1 .0) (p .1 .1 .1 .1 .1)
+    NoneHolds (tests c)
+    → (r .printed ≡ length (textOfJob (c .job))) × (c .text-after ≡ over (textOfJob (c .job)) (c .text)))
+job-prints κs a r e p f = let c = jobCall κs a e in
+    prints _ _ (c .text) (c .text-after) (r .printed) (text-is c f) (p .1 .0) (p .1 .1 .1 .1 .1)

@@ -1,13 +1,10 @@
 pub mod Laws
-pub mod Calls
+pub mod Arguments
 pub mod Demand1
 pub mod Demand2
 pub mod Sums
-pub mod Agree
-pub mod Lone
-pub mod Differences
+pub mod RunArguments
 pub mod Demand3
-pub mod Drawn
 pub mod Runs
 pub mod ChainedRun
 pub mod Jobs

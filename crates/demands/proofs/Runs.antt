@@ -1,6 +1,6 @@
--- What a chained run's contract gives, over the way: the number of its answer by the tests in order, the buffers that a refusal keeps, and the last
--- picture where the finder picks it.
-use Prim.Native.Nat.{ℕ, _%_, _≤_, _<_}
+-- What a chained run's contract gives, over the way: the number of its answer by the tests in order,
+-- the buffers that a refusal keeps, and the last picture where the finder picks it.
+use Prim.Native.Nat.{ℕ, _+_, _%_, _≤_, _<_}
 use mathlib.Core.Path.{_≡_, refl, sym, ap, ap₂, _∙_, subst}
 use mathlib.Core.Bool.{Bool, true, false, not, cond}
 use mathlib.Core.Logic.{_↔_}
@@ -14,15 +14,15 @@ use Rattle.answer.specs.declared.Answer.the-variants.{Done}
 use Rattle.answer.specs.declared.Told.{Told}
 use Rattle.answer.specs.Answer.{told, plain, isDone}
 use Rattle.answer.specs.Refuse.{Test, refuse, FirstHolds, here, later, NoneHolds, end, next}
-use Rattle.answer.specs.Lent.{ifDone}
+use Rattle.answer.specs.Lent.{ifDone, unlessRefused}
 use Rattle.answer.proofs.Order.{Numbered, number-of, none-given, exactly, done-exactly}
 use Rattle.answer.proofs.Lent.{all-done, two-parts}
 use Rattle.picture.specs.declared.Depth.{Depth}
 use Rattle.picture.specs.declared.Depth.the-variants.{OneBit}
 use Rattle.picture.specs.Frame.{top, sizedFrame, pictureBytes, frame}
 use Rattle.picture.specs.Points.{valueAt}
-use Rattle.picture.specs.Bytes.{Picture, bytesOf, written, faced, paddingClear}
-use Rattle.picture.proofs.Back.{bytes-long, alone}
+use Rattle.picture.specs.Bytes.{Picture, bytesOf, written, paddingClear}
+use Rattle.picture.proofs.Bytes.{bytes-long, alone}
 use Rattle.picture.proofs.Shown.{written-shown}
 use Rattle.element.specs.Shape.{Offset}
 use Rattle.element.specs.Descriptor.{shapeIn}
@@ -33,23 +33,25 @@ use Rattle.morphology.specs.Chain.{Chained, Accepted, First}
 use Rattle.morphology.specs.Demand.{Differs}
 use Rattle.morphology.specs.Check.{Verdict, Taken, Split, checkOf}
 use Rattle.morphology.specs.Worked.{takenBy}
-use Rattle.rows.specs.Fold.{sweptBy}
-use Rattle.rows.proofs.Packed.{faced-small}
-use Rattle.faults.specs.Faults.{answerOf}
-use Rattle.operation.specs.Tests.{sourceTests, roomTests}
+use Rattle.rows.specs.Steps.Ways.{sweptBy}
+use Rattle.apply.proofs.Twice.{bit-value}
+use Rattle.faults.specs.Verdicts.{answerOf}
+use Rattle.judge.specs.declared.Padding.the-variants.{Judged}
+use Rattle.judge.specs.Tests.{pictureTests, roomTests}
 use Rattle.chain.specs.Reading.{counted, chainTests, checkTests, linksIn, checked}
-use Rattle.chain.specs.Finder.{foundAt}
+use Rattle.chained.specs.Finder.{foundAt}
 use Rattle.chain.proofs.Checking.{check-numbered, some-links}
-use Rattle.chain.proofs.Finding.{in-first, in-second}
-use Rattle.chained.specs.Run.{runAnswer, keptUnlessDone, eroded, dilated, inFirst, inSecond, holding, firstAfter, secondAfter}
-use Rattle.chained.specs.Turns.{resultsBy}
-use Rattle.chained.proofs.Links.{result-bounded}
-use Rattle.chained.proofs.Turns.{own-bytes, odd-last, even-last}
-use Rattle.chained.proofs.Answers.{Admitted, admitted}
+use Rattle.chained.proofs.Finding.{in-first, in-second}
+use Rattle.chained.specs.Run.{runAnswer, eroded, dilated, inFirst, inSecond, holding, firstAfter, secondAfter}
+use Rattle.chained.specs.Steps.Buffers.{resultsBy}
+use Rattle.chained.proofs.Results.{result-bounded}
+use Rattle.chained.proofs.Buffers.{own-bytes, odd-last, even-last}
+use Rattle.chained.proofs.Answers.{Passed, passed}
 use Rattle.demands.specs.Demands.{ExactlyNumbered, Kept, Shows}
-use Rattle.demands.specs.Runs.{runTests}
-use Rattle.demands.proofs.Calls.{RunCall, roomRun, testsRun}
-use Rattle.demands.proofs.Demand3.{WellMade, splitAt, split-is-first, some-top, accepted-dilated, accepted-eroded, accepted-is-same, chained, done-is-same}
+use Rattle.demands.specs.Chains.{WellMade, splitAt, runTests}
+use Rattle.demands.proofs.RunArguments.{RunCall, roomRun, testsRun}
+use Rattle.demands.proofs.Demand3.{split-is-first, chained, done-is-same}
+use Rattle.morphology.proofs.Verdicts.{some-top, accepted-dilated, accepted-eroded, accepted-is-same}
 
 -- ---- an answer's number
 
@@ -113,23 +115,25 @@ done-plain = λ s. refl
 
 checked-plain : (element : List ℕ) (k : ℕ) (chain : List ℕ) → NoOffset (checked element k chain)
 unfolding checked
-checked-plain element k chain = refuse-plain (checkTests element k chain) _ (verdict-plain (checkOf (shapeIn element) (linksIn k chain)))
+checked-plain element k chain =
+    refuse-plain (checkTests element k chain) _ (verdict-plain (checkOf (shapeIn element) (linksIn k chain)))
 
 -- the check's answer, where it is done
-check-done : (element : List ℕ) (k : ℕ) (chain : List ℕ) → isDone (checked element k chain) ≡ true → checked element k chain ≡ plain 0
+check-done : (element : List ℕ) (k : ℕ) (chain : List ℕ) → isDone (checked element k chain) ≡ true
+    → checked element k chain ≡ plain 0
 check-done element k chain e =
     let z = eqb-true (checked element k chain .number) 0 e in
     checked-plain element k chain (λ s. omega arith) ∙ ap plain z
 
 module _ (depth : Depth) (w h : ℕ) (source element : List ℕ) (k : ℕ) (chain : List ℕ) (room : ℕ) where
   abbrev S : List Test
-  S = sourceTests depth w h source
+  S = pictureTests Judged depth w h source
 
   abbrev C : List Test
   C = checkTests element k chain
 
   abbrev R : List Test
-  R = roomTests depth w h room
+  R = roomTests depth w h 0 room
 
   abbrev verdict : Verdict
   verdict = checkOf (shapeIn element) (linksIn k chain)
@@ -145,20 +149,24 @@ module _ (depth : Depth) (w h : ℕ) (source element : List ℕ) (k : ℕ) (chai
       both-numbered S (C ++ (split ++ R)) (lit≤ tt, (lit≤ tt, (lit≤ tt, tt)))
       (both-numbered C (split ++ R) (check-numbered element k chain) (lit≤ tt, (lit≤ tt, tt)))
 
-  numbers : bare (runAnswer depth w h source element k chain room) ≡ refuse (runTests depth w h source element k chain room) (plain 0)
+  numbers : bare (runAnswer depth w h source element k chain room)
+      ≡ refuse (runTests depth w h source element k chain room) (plain 0)
   unfolding runAnswer checked plain bare
   numbers =
       bare-refuse S (ifDone (checked element k chain) (refuse R (plain 0)))
       ∙ ap (refuse S)
       (bare-waits (checked element k chain) (refuse R (plain 0))
-      ∙ ap₂ ifDone (bare-refuse C (told (answerOf verdict)) ∙ ap (refuse C) (bare-verdict verdict) ∙ one-list C split (plain 0)) (bare-refuse R (plain 0))
+      ∙ ap₂ ifDone (bare-refuse C (told (answerOf verdict)) ∙ ap (refuse C) (bare-verdict verdict)
+      ∙ one-list C split (plain 0)) (bare-refuse R (plain 0))
       ∙ two-parts (C ++ split) R split-numbered)
       ∙ one-list S ((C ++ split) ++ R) (plain 0)
       ∙ ap (λ ts. refuse (S ++ ts) (plain 0)) (append-assoc C split R)
 
   no-offset : NoOffset (runAnswer depth w h source element k chain room)
   unfolding runAnswer
-  no-offset = refuse-plain S _ (waits-plain (checked element k chain) _ (checked-plain element k chain) (refuse-plain R (plain 0) done-plain))
+  no-offset =
+      refuse-plain S _ (waits-plain (checked element k chain) _ (checked-plain element k chain)
+      (refuse-plain R (plain 0) done-plain))
 
 -- ---- demand 1
 
@@ -175,7 +183,8 @@ module _ (ts : List Test) (t : Told) (some : Numbered ts) (b : bare t ≡ refuse
   unfolding bare plain
   numbered-exactly p =
       record {
-        refused = λ n h. (λ e. exactly ts n h .0 (sym b ∙ ap plain e), λ f. number-is n (exactly ts n h .1 f));
+        refused =
+            λ n h. (λ e. exactly ts n h .0 (sym b ∙ ap plain e), λ f. number-is n (exactly ts n h .1 f));
         done = (
           λ e. done-exactly ts some .0 (sym b ∙ ap bare e),
           λ f. let z = number-is 0 (done-exactly ts some .1 f) in p (λ s. omega arith) ∙ ap plain z,
@@ -183,41 +192,49 @@ module _ (ts : List Test) (t : Told) (some : Numbered ts) (b : bare t ≡ refuse
         offset = p;
       }
 
-  numbered-kept : (before after made : List ℕ) → after ≡ keptUnlessDone t before made → Kept ts before after
+  numbered-kept : (before after made : List ℕ) → after ≡ unlessRefused t before made → Kept ts before after
+  unfolding unlessRefused
   numbered-kept before after made e n f =
       let z = number-is n (exactly ts n (first-some f some) .1 f) in
       let s = first-some f some in
       e ∙ ap (λ b. cond b made before) (ne-eqb (t .number) 0 (λ q. omega arith))
 
-module _ (c : RunCall) (t : Told) (p : t ≡ runAnswer (c .depth) (c .w) (c .h) (c .source) (c .element) (c .links) (c .chain) (roomRun c)) where
+module _ (c : RunCall) (t : Told) (p : t
+    ≡ runAnswer (c .depth) (c .w) (c .h) (c .source) (c .element) (c .links) (c .chain) (roomRun c)) where
   abbrev some : Numbered (testsRun c)
   some = tests-numbered (c .depth) (c .w) (c .h) (c .source) (c .element) (c .links) (c .chain) (roomRun c)
 
   abbrev by-tests : bare t ≡ refuse (testsRun c) (plain 0)
-  by-tests = ap bare p ∙ numbers (c .depth) (c .w) (c .h) (c .source) (c .element) (c .links) (c .chain) (roomRun c)
+  by-tests =
+      ap bare p ∙ numbers (c .depth) (c .w) (c .h) (c .source) (c .element) (c .links) (c .chain) (roomRun c)
 
   pub run-exactly : ExactlyNumbered (testsRun c) t
   run-exactly =
       numbered-exactly (testsRun c) t some by-tests
-      (subst NoOffset (sym p) (no-offset (c .depth) (c .w) (c .h) (c .source) (c .element) (c .links) (c .chain) (roomRun c)))
+      (subst NoOffset (sym p)
+      (no-offset (c .depth) (c .w) (c .h) (c .source) (c .element) (c .links) (c .chain) (roomRun c)))
 
-  pub run-kept : (before after made : List ℕ) → after ≡ keptUnlessDone t before made → Kept (testsRun c) before after
+  pub run-kept : (before after made : List ℕ) → after ≡ unlessRefused t before made
+      → Kept (testsRun c) before after
   run-kept = numbered-kept (testsRun c) t some by-tests
 
 -- ---- SPLIT
 
--- the answer is SPLIT dx, dy exactly when the source is as it must be, element and chain are well made, and that offset is the first, in row order, at
--- which a lone echo in some frame within the limits is dilated differently
+-- the answer is SPLIT dx, dy exactly when the source is as it must be,
+-- element and chain are well made, and that offset is the first, in row order,
+-- at which a lone echo in some frame within the limits is dilated differently
 module _ (depth : Depth) (w h : ℕ) (source element : List ℕ) (k : ℕ) (chain : List ℕ) (room : ℕ) (r : Answer)
     (p : told r ≡ runAnswer depth w h source element k chain room) (e : Offset) where
   abbrev first-difference : Type 0
-  first-difference = WellMade element k chain × First (Differs (top depth) (shapeIn element) (linksIn k chain)) e
+  first-difference =
+      WellMade element k chain × First (Differs (top depth) (shapeIn element) (linksIn k chain)) e
 
   other : (n : ℕ) → (n ≡ 7 → ⊥) → plain n ≡ splitAt e → ⊥
   unfolding plain
   other n s q = s (ap (λ (t : Told). t .number) q)
 
-  after-source : (a b c : Bool) (after : Told) → refuse ((a, 1) ∷ (b, 2) ∷ (c, 3) ∷ []) after ≡ splitAt e → NoneHolds ((a, 1) ∷ (b, 2) ∷ (c, 3) ∷ []) × (after ≡ splitAt e)
+  after-source : (a b c : Bool) (after : Told) → refuse ((a, 1) ∷ (b, 2) ∷ (c, 3) ∷ []) after ≡ splitAt e
+      → NoneHolds ((a, 1) ∷ (b, 2) ∷ (c, 3) ∷ []) × (after ≡ splitAt e)
   after-source true b c after q = absurd (other 1 (λ z. omega arith) q)
   after-source false true c after q = absurd (other 2 (λ z. omega arith) q)
   after-source false false true after q = absurd (other 3 (λ z. omega arith) q)
@@ -227,24 +244,26 @@ module _ (depth : Depth) (w h : ℕ) (source element : List ℕ) (k : ℕ) (chai
   not-room true q = other 8 (λ z. omega arith) q
   not-room false q = other 0 (λ z. omega arith) q
 
-  pub run-split : (told r ≡ splitAt e) ↔ (NoneHolds (sourceTests depth w h source) × first-difference)
+  pub run-split : (told r ≡ splitAt e) ↔ (NoneHolds (pictureTests Judged depth w h source) × first-difference)
   unfolding runAnswer checked
   run-split = (there, back)
     where
       Y : Told
-      Y = refuse (roomTests depth w h room) (plain 0)
+      Y = refuse (roomTests depth w h 0 room) (plain 0)
 
-      by : (b : Bool) → isDone (checked element k chain) ≡ b → cond b Y (checked element k chain) ≡ splitAt e → checked element k chain ≡ splitAt e
-      by true d q = absurd (not-room (ltb room (pictureBytes depth w h)) q)
+      by : (b : Bool) → isDone (checked element k chain) ≡ b → cond b Y (checked element k chain) ≡ splitAt e
+          → checked element k chain ≡ splitAt e
+      by true d q = absurd (not-room (ltb room (0 + pictureBytes depth w h)) q)
       by false d q = q
 
-      there : told r ≡ splitAt e → NoneHolds (sourceTests depth w h source) × first-difference
+      there : told r ≡ splitAt e → NoneHolds (pictureTests Judged depth w h source) × first-difference
       there t =
-          let s = after-source (not (sizedFrame w h)) (not (eqb (length source) (pictureBytes depth w h))) (not (paddingClear depth source w h)) (ifDone (checked element k chain) Y) (sym p ∙ t) in
+          let s = after-source (not (sizedFrame w h)) (not (eqb (length source) (pictureBytes depth w h)))
+          (not (paddingClear depth source w h)) (ifDone (checked element k chain) Y) (sym p ∙ t) in
           let c = by (isDone (checked element k chain)) refl (s .1) in
           (s .0, split-is-first element chain k r (t ∙ sym c) depth e .0 t)
 
-      back : NoneHolds (sourceTests depth w h source) × first-difference → told r ≡ splitAt e
+      back : NoneHolds (pictureTests Judged depth w h source) × first-difference → told r ≡ splitAt e
       back f =
           let v = answerOf (checkOf (shapeIn element) (linksIn k chain)) in
           let c : told v ≡ checked element k chain = sym (none-given (told v) (f .1 .0)) in
@@ -253,34 +272,42 @@ module _ (depth : Depth) (w h : ℕ) (source element : List ℕ) (k : ℕ) (chai
 
 -- ---- the last picture
 
-one-bounded : (depth : Depth) (w h : ℕ) (source : List ℕ) → depth ≡ OneBit → Bounded (top depth) (frame w h) (valueAt depth source w)
-unfolding faced
+one-bounded : (depth : Depth) (w h : ℕ) (source : List ℕ) → depth ≡ OneBit
+    → Bounded (top depth) (frame w h) (valueAt depth source w)
 one-bounded depth w h source e p i =
-    subst (λ (d : Depth). valueAt d source w (p .x) (p .y) ≤ top d) (sym e) (faced-small false source w (p .x) (p .y))
+    subst (λ n. valueAt depth source w (p .x) (p .y) ≤ n)
+    (sym (ap top e)) (bit-value depth e source w (p .x) (p .y))
 
 module _ (depth : Depth) (w h : ℕ) (result : ℕ → Picture) where
   written-long : (A : Picture) (t : List ℕ) → pictureBytes depth w h ≤ length (written depth A w h t)
   unfolding written
-  written-long A t = omega (arith, length-append (bytesOf depth A w h) (drop (pictureBytes depth w h) t), bytes-long depth A w h)
+  written-long A t =
+      omega
+      (arith, length-append (bytesOf depth A w h) (drop (pictureBytes depth w h) t), bytes-long depth A w h)
 
-  held-long : (i : ℕ) (t : List ℕ) → pictureBytes depth w h ≤ length t → pictureBytes depth w h ≤ length (holding depth w h result i t)
-  held-long i t l = by (eqb i 0)
+  buffer-long : (i : ℕ) (t : List ℕ) → pictureBytes depth w h ≤ length t
+      → pictureBytes depth w h ≤ length (holding depth w h result i t)
+  buffer-long i t l = by (eqb i 0)
     where
       by : (b : Bool) → pictureBytes depth w h ≤ length (cond b t (written depth (result i) w h t))
       by true = l
       by false = written-long (result i) t
 
-  first-long : (k : ℕ) (t : List ℕ) → pictureBytes depth w h ≤ length t → pictureBytes depth w h ≤ length (firstAfter depth w h result k t)
+  first-long : (k : ℕ) (t : List ℕ) → pictureBytes depth w h ≤ length t
+      → pictureBytes depth w h ≤ length (firstAfter depth w h result k t)
   unfolding firstAfter
-  first-long k t l = held-long (inFirst k) t l
+  first-long k t l = buffer-long (inFirst k) t l
 
-  second-long : (k : ℕ) (t : List ℕ) → pictureBytes depth w h ≤ length t → pictureBytes depth w h ≤ length (secondAfter depth w h result k t)
+  second-long : (k : ℕ) (t : List ℕ) → pictureBytes depth w h ≤ length t
+      → pictureBytes depth w h ≤ length (secondAfter depth w h result k t)
   unfolding secondAfter
-  second-long k t l = held-long (inSecond k) t l
+  second-long k t l = buffer-long (inSecond k) t l
 
 -- the finder picks the last result's own bytes
-module _ (depth : Depth) (w h : ℕ) (result : ℕ → Picture) (source element : List ℕ) (k : ℕ) (chain first second : List ℕ) (room : ℕ)
-    (y : Admitted depth w h source element k chain room) (l : pictureBytes depth w h ≤ length first) (m : pictureBytes depth w h ≤ length second) where
+module _ (depth : Depth) (w h : ℕ) (result : ℕ → Picture)
+    (source element : List ℕ) (k : ℕ) (chain first second : List ℕ) (room : ℕ)
+    (y : Passed depth w h source element k chain room)
+    (l : pictureBytes depth w h ≤ length first) (m : pictureBytes depth w h ≤ length second) where
   abbrev one : List ℕ
   one = firstAfter depth w h result k first
 
@@ -298,7 +325,7 @@ module _ (depth : Depth) (w h : ℕ) (result : ℕ → Picture) (source element 
       n = pictureBytes depth w h
 
       count : n ≡ cond (sizedFrame w h) n 0
-      count = ap (λ b. cond b n 0) (sym (y .sized))
+      count = ap (λ b. cond b n 0) (sym (y .picture .sized))
 
       longs : (n ≤ length one) × (n ≤ length two)
       longs = (first-long depth w h result k first l, second-long depth w h result k second m)
@@ -306,59 +333,80 @@ module _ (depth : Depth) (w h : ℕ) (result : ℕ → Picture) (source element 
       by : (b : Bool) → eqb (k % 2) 1 ≡ b → foundAt one two depth w h k ≡ bytesOf depth (result k) w h
       by true e =
           let o = eqb-true (k % 2) 1 e in
-          sym (in-first one two depth w h k (y .sized) right n count (longs .0) (longs .1) o)
+          sym (in-first one two depth w h k (y .picture .sized) right n count (longs .0) (longs .1) o)
           ∙ ap (take n) (odd-last depth w h result k first o) ∙ own-bytes depth w h (result k) first n refl
       by false e =
           let o = eqb-false (k % 2) 1 e in
           let some = some-links k right in
-          sym (in-second one two depth w h k (y .sized) right n count (longs .0) (longs .1) o)
-          ∙ ap (take n) (even-last depth w h result k second o (λ z. omega arith)) ∙ own-bytes depth w h (result k) second n refl
+          sym (in-second one two depth w h k (y .picture .sized) right n count (longs .0) (longs .1) o)
+          ∙ ap (take n) (even-last depth w h result k second o (λ z. omega arith))
+          ∙ own-bytes depth w h (result k) second n refl
 
 -- a chain that is accepted does the element's work on any picture
-module _ (depth : Depth) (w h : ℕ) (source element : List ℕ) (k : ℕ) (chain : List ℕ) (done : isDone (checked element k chain) ≡ true) where
+module _ (depth : Depth) (w h : ℕ) (source element : List ℕ) (k : ℕ)
+    (chain : List ℕ) (done : isDone (checked element k chain) ≡ true) where
   told-done : told Done ≡ checked element k chain
   unfolding told
   told-done = sym (check-done element k chain done)
 
   works : (grows : Bool) (p : Place) → In (frame w h) p
-      → resultsBy grows depth w h source chain k (p .x) (p .y) ≡ sweptBy grows flat (top depth) (frame w h) (shapeIn element) (valueAt depth source w) (p .x) (p .y)
+      → resultsBy grows depth w h source chain k (p .x) (p .y)
+      ≡ sweptBy grows flat (top depth) (frame w h) (shapeIn element) (valueAt depth source w) (p .x) (p .y)
   unfolding eroded dilated
   works grows p i =
       let s = done-is-same element chain k Done told-done .0 (told-done ∙ check-done element k chain done) in
       let C = chained element chain k Done told-done (s .0) in
-      let none = accepted-is-same (shapeIn element) (linksIn k chain) C (top depth) (some-top depth) .1 (s .1 depth) in
+      let none = accepted-is-same (shapeIn element)
+      (linksIn k chain) C (top depth) (some-top depth) .1 (s .1 depth) in
       by C none grows
     where
-      by : Chained (shapeIn element) (linksIn k chain) → Accepted (shapeIn element) (linksIn k chain) → (grows : Bool)
-          → resultsBy grows depth w h source chain k (p .x) (p .y) ≡ sweptBy grows flat (top depth) (frame w h) (shapeIn element) (valueAt depth source w) (p .x) (p .y)
-      by C none true = accepted-dilated (shapeIn element) (linksIn k chain) C none (frame w h) (valueAt depth source w) p i
-      by C none false = accepted-eroded (shapeIn element) (linksIn k chain) C none (top depth) (frame w h) (valueAt depth source w) p i
+      by : Chained (shapeIn element) (linksIn k chain) → Accepted (shapeIn element) (linksIn k chain)
+          → (grows : Bool)
+          → resultsBy grows depth w h source chain k (p .x) (p .y)
+          ≡ sweptBy grows flat (top depth) (frame w h)
+          (shapeIn element) (valueAt depth source w) (p .x) (p .y)
+      by C none true =
+          accepted-dilated (shapeIn element) (linksIn k chain) C none (frame w h) (valueAt depth source w) p i
+      by C none false =
+          accepted-eroded (shapeIn element) (linksIn k chain) C none (top depth)
+          (frame w h) (valueAt depth source w) p i
 
-made : (t : Told) (was new : List ℕ) → isDone t ≡ true → keptUnlessDone t was new ≡ new
+made : (t : Told) (was new : List ℕ) → isDone t ≡ true → unlessRefused t was new ≡ new
+unfolding unlessRefused
 made t was new e = ap (λ b. cond b new was) e
 
 -- so where nothing is refused the finder's part shows the element's own erosion or dilation
-module _ (grows : Bool) (c : RunCall) (t : Told) (p : t ≡ runAnswer (c .depth) (c .w) (c .h) (c .source) (c .element) (c .links) (c .chain) (roomRun c)) where
+module _ (grows : Bool) (c : RunCall) (t : Told) (p : t
+    ≡ runAnswer (c .depth) (c .w) (c .h) (c .source) (c .element) (c .links) (c .chain) (roomRun c)) where
   abbrev results : ℕ → Picture
   results = resultsBy grows (c .depth) (c .w) (c .h) (c .source) (c .chain)
 
-  pub run-shows : c .first-after ≡ keptUnlessDone t (c .first) (firstAfter (c .depth) (c .w) (c .h) results (c .links) (c .first))
-      → c .second-after ≡ keptUnlessDone t (c .second) (secondAfter (c .depth) (c .w) (c .h) results (c .links) (c .second))
-      → Shows (testsRun c) (c .depth) (c .w) (c .h) (foundAt (c .first-after) (c .second-after) (c .depth) (c .w) (c .h) (c .links))
-      (sweptBy grows flat (top (c .depth)) (frame (c .w) (c .h)) (shapeIn (c .element)) (valueAt (c .depth) (c .source) (c .w)))
+  pub run-shows : c .first-after
+      ≡ unlessRefused t (c .first) (firstAfter (c .depth) (c .w) (c .h) results (c .links) (c .first))
+      → c .second-after
+      ≡ unlessRefused t (c .second) (secondAfter (c .depth) (c .w) (c .h) results (c .links) (c .second))
+      → Shows (testsRun c) (c .depth) (c .w) (c .h)
+      (foundAt (c .first-after) (c .second-after) (c .depth) (c .w) (c .h) (c .links))
+      (sweptBy grows flat (top (c .depth)) (frame (c .w) (c .h))
+      (shapeIn (c .element)) (valueAt (c .depth) (c .source) (c .w)))
   run-shows e f none q hx hy =
       let done : isDone t ≡ true = ap isDone (run-exactly c t p .done .1 none) ∙ all-done in
-      let y = admitted (c .depth) (c .w) (c .h) (c .source) (c .element) (c .links) (c .chain) (roomRun c) (ap isDone (sym p) ∙ done) in
-      let fits = y .fits in
+      let y = passed (c .depth) (c .w) (c .h) (c .source) (c .element)
+      (c .links) (c .chain) (roomRun c) (ap isDone (sym p) ∙ done) in
+      let fits = y .picture .roomy in
       ap (λ l. valueAt (c .depth) l (c .w) (q .ping .0) (q .bin .0))
-      (ap₂ (λ a b. foundAt a b (c .depth) (c .w) (c .h) (c .links)) (e ∙ made t (c .first) _ done) (f ∙ made t (c .second) _ done)
-      ∙ found (c .depth) (c .w) (c .h) results (c .source) (c .element) (c .links) (c .chain) (c .first) (c .second) (roomRun c) y (omega (arith, fits)) (omega (arith, fits))
+      (ap₂ (λ a b. foundAt a b (c .depth) (c .w) (c .h) (c .links))
+      (e ∙ made t (c .first) _ done) (f ∙ made t (c .second) _ done)
+      ∙ found (c .depth) (c .w) (c .h) results (c .source) (c .element) (c .links) (c .chain)
+      (c .first) (c .second) (roomRun c) y (omega (arith, fits)) (omega (arith, fits))
       ∙ sym (alone (c .depth) (results (c .links)) (c .w) (c .h)))
       ∙ written-shown (c .depth) (results (c .links)) (c .w) (c .h) [] small (q .ping .0) (q .bin .0) hx hy
-      ∙ works (c .depth) (c .w) (c .h) (c .source) (c .element) (c .links) (c .chain) (y .accepted) grows (record { x = q .ping .0; y = q .bin .0 }) (record { ping = hx; bin = hy })
+      ∙ works (c .depth) (c .w) (c .h) (c .source) (c .element) (c .links) (c .chain)
+      (y .accepted) grows (record { x = q .ping .0; y = q .bin .0 }) (record { ping = hx; bin = hy })
     where
       small : c .depth ≡ OneBit → (x y : ℕ) → x < c .w → y < c .h → results (c .links) x y ≤ 1
       small o x y hx hy =
           subst (λ n. results (c .links) x y ≤ n) (ap top o)
-          (result-bounded (c .depth) (c .w) (c .h) (c .source) (c .chain) (one-bounded (c .depth) (c .w) (c .h) (c .source) o) grows (c .links)
+          (result-bounded (c .depth) (c .w) (c .h) (c .source) (c .chain)
+          (one-bounded (c .depth) (c .w) (c .h) (c .source) o) grows (c .links)
           (record { x = x; y = y }) (record { ping = hx; bin = hy }))

@@ -32,9 +32,13 @@ Kept tests before after = (n : ℕ) → FirstHolds tests n → after ≡ before
 -- demand 2: where nothing is refused, the bytes are, at each point of the W x H frame, the picture A
 abbrev pub Shows : List Test → Depth → ℕ → ℕ → List ℕ → Picture → Type 0
 Shows tests depth w h bytes A =
-    NoneHolds tests → (p : Point) → p .ping .0 < w → p .bin .0 < h → valueAt depth bytes w (p .ping .0) (p .bin .0) ≡ A (p .ping .0) (p .bin .0)
+    NoneHolds tests → (p : Point) → p .ping .0 < w → p .bin .0 < h
+    → valueAt depth bytes w (p .ping .0) (p .bin .0) ≡ A (p .ping .0) (p .bin .0)
 
--- of every outcome that a function's contract allows, as the prover reads it: the answer x and the state e at exit of the call a
+-- of every outcome that a function's contract allows, as the prover reads it:
+-- the answer x and the state e at exit of the call a
 abbrev pub Every : (n : ℕ) (ps : List (PK n)) (r : RK n) → Out n ps r
     → ((κs : Lfts n) → Dens κs ps → resT r κs .Denot → AtExit (endedOf n ps r) κs → Type 0) → Type 0
-Every n ps r Allowed P = (κs : Lfts n) (a : Dens κs ps) (x : resT r κs .Denot) (e : AtExit (endedOf n ps r) κs) → Allowed κs a x e → P κs a x e
+Every n ps r Allowed P =
+    (κs : Lfts n) (a : Dens κs ps) (x : resT r κs .Denot) (e : AtExit (endedOf n ps r) κs) → Allowed κs a x e
+    → P κs a x e

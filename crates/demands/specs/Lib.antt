@@ -1,2 +1,2 @@
 pub mod Demands
-pub mod Runs
+pub mod Chains

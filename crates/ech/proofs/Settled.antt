@@ -1,10 +1,11 @@
--- Any two outcomes that a contract allows of one call are the same: for each public function, of its contract itself, as the prover reads it.
+-- Any two outcomes that a contract allows of one call are the same:
+-- for each public function, of its contract itself, as the prover reads it.
 use Rattle.answer.proofs.OneToOne.{same-answer}
 use Prim.Native.Nat.{ℕ}
 use mathlib.Core.Path.{_≡_}
 use Rattle.answer.specs.declared.Told.{Told}
 use Rattle.ech.specs.declared.Header.{Header}
-use Rattle.ech.specs.Calls.{GivenBack}
+use Rattle.ech.specs.ReadWrite.{GivenBack}
 use Rattle.basics.proofs.Settled.{Settles, SettlesBytes, settled}
 use Rattle.ech.proofs.depth_of.Kinds as depth-of-kinds
 use Rattle.ech.proofs.depth_of.Reads as depth-of
@@ -16,8 +17,14 @@ use Rattle.ech.proofs.write_ech.Kinds as write-ech-kinds
 use Rattle.ech.proofs.write_ech.Reads as write-ech
 
 -- what is given back is settled by its answer
-same-header : (t : Told) (kind w h : ℕ) (x y : Header) → GivenBack t kind w h x → GivenBack t kind w h y → x ≡ y
-same-header t kind w h x y p q = λ i. record { answer = same-answer (x .answer) (y .answer) t (p .answer) (q .answer) i; kind = settled (p .kind) (q .kind) i; w = settled (p .pings) (q .pings) i; h = settled (p .bins) (q .bins) i }
+same-header : (t : Told) (kind w h : ℕ) (x y : Header)
+    → GivenBack t kind w h x → GivenBack t kind w h y → x ≡ y
+same-header t kind w h x y p q = λ i. record {
+  answer = same-answer (x .answer) (y .answer) t (p .answer) (q .answer) i;
+  kind = settled (p .kind) (q .kind) i;
+  w = settled (p .pings) (q .pings) i;
+  h = settled (p .bins) (q .bins) i;
+}
 
 pub depth-of-settled : Settles 0 depth-of-kinds.ps depth-of-kinds.r depth-of.Learnt
 depth-of-settled κs a x y s t p q = settled p q
@@ -28,11 +35,13 @@ judge-ech-settled κs a x y s t p q = same-header _ _ _ _ x y p q
 pub read-ech-settled : Settles 2 read-ech-kinds.ps read-ech-kinds.r read-ech.Learnt
 read-ech-settled κs a x y s t p q = same-header _ _ _ _ x y (p .0) (q .0)
 
-pub read-ech-settled-target : SettlesBytes 2 read-ech-kinds.ps read-ech-kinds.r read-ech.Learnt (λ κs e. e .1 .0 .now)
+pub read-ech-settled-target : SettlesBytes 2 read-ech-kinds.ps
+    read-ech-kinds.r read-ech.Learnt (λ κs e. e .1 .0 .now)
 read-ech-settled-target κs a x y s t p q = settled (p .1) (q .1)
 
 pub write-ech-settled : Settles 2 write-ech-kinds.ps write-ech-kinds.r write-ech.Learnt
 write-ech-settled κs a x y s t p q = same-answer x y _ (p .0) (q .0)
 
-pub write-ech-settled-target : SettlesBytes 2 write-ech-kinds.ps write-ech-kinds.r write-ech.Learnt (λ κs e. e .1 .1 .1 .1 .0 .now)
+pub write-ech-settled-target : SettlesBytes 2 write-ech-kinds.ps
+    write-ech-kinds.r write-ech.Learnt (λ κs e. e .1 .1 .1 .1 .0 .now)
 write-ech-settled-target κs a x y s t p q = settled (p .1) (q .1)

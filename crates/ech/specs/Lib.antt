@@ -1,2 +1,3 @@
 pub mod File
-pub mod Calls
+pub mod ReadWrite
+pub mod Steps

@@ -1,17 +1,20 @@
 // The ECH file, version 1, read and written.
 use answer::Answer;
+use judge::Padding;
 use picture::Depth;
 use picture::Face;
 ghost use mathlib.Core.Path.{_≡_};
-ghost use Prim.Native.Nat.{_+_, _*_, _/_, _%_, _≤_, _<_};
-ghost use mathlib.Core.List.{_++_};
-ghost use lib.ListN.{length, drop};
-ghost use Rattle.answer.specs.Answer.{told, plain};
-ghost use Rattle.answer.specs.Refuse.{refuse};
 ghost use mathlib.Core.Bool.{true};
+ghost use mathlib.Core.List.{_++_};
+ghost use Prim.Native.Nat.{_+_, _≤_};
+ghost use lib.ListN.{length, drop};
+ghost use Rattle.answer.specs.Answer.{told};
 ghost use Rattle.picture.specs.Frame.{mostPings, mostBins, pictureBytes};
-ghost use Rattle.ech.specs.File.{headBytes, fileOf, twoBytes, knownKind, depthOf, faceOf, formed, headOf, kindOf, pingsOf, binsOf};
-ghost use Rattle.ech.specs.Calls.{pictureTests, GivenBack, refusedAs, bodyAnswer, readAnswer, readTarget, Passed, writeAnswer, writeTarget};
+ghost use Rattle.judge.specs.Tests.{Admitted};
+ghost use Rattle.ech.specs.File.{headBytes, fileOf, twoBytes, knownKind, depthOf};
+ghost use Rattle.ech.specs.File.{faceOf, formed, headOf, kindOf, pingsOf, binsOf};
+ghost use Rattle.ech.specs.ReadWrite.{GivenBack, readAnswer, readTarget, writeAnswer, writeTarget};
+ghost use Rattle.ech.specs.Steps.Body.{refusedAs, bodyAnswer};
 
 // The bytes before the body.
 const HEAD: usize = 10;
@@ -87,27 +90,6 @@ fn is_formed(f: &[u8]) -> bool
     is_known(size(f[5]))
 }
 
-// The tests of a picture's bytes and of the room for them after `before` bytes.
-fn judged(depth: Depth, w: usize, h: usize, s: &[u8], room: usize, before: usize) -> Answer
-    requires { ⌜ before ≤ 10 ⌝ }
-    ensures { λ r. ⌜ told r ≡ refuse (pictureTests depth w h (now (s .entry)) room before) (plain 0) ⌝ }
-{
-    if picture::sized(w, h) {
-        let n = picture::picture_bytes(depth, w, h);
-        if s.len() == n {
-            if picture::padding_clear(depth, s, w, h) {
-                if room < before + n {
-                    return Answer::Room;
-                }
-                return Answer::Done;
-            }
-            return Answer::Pad;
-        }
-        return Answer::Source;
-    }
-    Answer::Size
-}
-
 fn refused(a: Answer) -> Header
     ensures { λ r. ⌜ r ≡ refusedAs a ⌝ }
 {
@@ -123,7 +105,16 @@ fn refused(a: Answer) -> Header
 fn judge_body(kind: usize, w: usize, h: usize, body: &[u8], room: usize) -> Header
     ensures { λ r. ⌜ GivenBack (bodyAnswer kind w h (now (body .entry)) room) kind w h r ⌝ }
 {
-    let a = judged(depth_of(kind), w, h, body, room, 0);
+    let a = judge::refusal(
+        Padding::Judged,
+        depth_of(kind),
+        w,
+        h,
+        body,
+        Answer::Done,
+        0,
+        room,
+    );
     if answer::is_done(a) {
         return Header {
             answer: a,
@@ -137,7 +128,8 @@ fn judge_body(kind: usize, w: usize, h: usize, body: &[u8], room: usize) -> Head
 
 // What a read of the file answers, for a target of `room` bytes: nothing is written.
 pub fn judge_ech(file: &[u8], room: usize) -> Header
-    ensures { λ r. ⌜ GivenBack (readAnswer (now (file .entry)) room) (kindOf (now (file .entry))) (pingsOf (now (file .entry))) (binsOf (now (file .entry))) r ⌝ }
+    ensures { λ r. ⌜ GivenBack (readAnswer (now (file .entry)) room) (kindOf (now (file .entry)))
+        (pingsOf (now (file .entry))) (binsOf (now (file .entry))) r ⌝ }
 {
     if is_formed(file) {
         let kind = size(file[5]);
@@ -150,7 +142,8 @@ pub fn judge_ech(file: &[u8], room: usize) -> Header
 
 // Reads a file's picture into the target; a refusal gives 0 for kind, W and H.
 pub fn read_ech(file: &[u8], target: &mut [u8]) -> Header
-    ensures { λ r. ⌜ GivenBack (readAnswer (now (file .entry)) (length (now (target .entry)))) (kindOf (now (file .entry))) (pingsOf (now (file .entry))) (binsOf (now (file .entry))) r ⌝ }
+    ensures { λ r. ⌜ GivenBack (readAnswer (now (file .entry)) (length (now (target .entry))))
+        (kindOf (now (file .entry))) (pingsOf (now (file .entry))) (binsOf (now (file .entry))) r ⌝ }
     ensures { λ _. ⌜ now (target .exit) ≡ readTarget (now (file .entry)) (now (target .entry)) ⌝ }
 {
     let head = judge_ech(file, target.len());
@@ -158,7 +151,7 @@ pub fn read_ech(file: &[u8], target: &mut [u8]) -> Header
     if answer::is_done(a) {
         let depth = depth_of(head.kind);
         let face = face_of(head.kind);
-        picture::copy_picture(depth, face, &file[HEAD..], target, head.w, head.h);
+        copies::copy_picture(depth, face, &file[HEAD..], target, head.w, head.h);
         return head;
     }
     head
@@ -187,17 +180,19 @@ fn head_of(kind: usize, w: usize, h: usize) -> [u8; HEAD]
     ]
 }
 
-// Writes head and body; both go through the one copy of rows, the head as a row of ten bytes.
+// Writes head and body.
 fn put_file(kind: usize, w: usize, h: usize, source: &[u8], target: &mut [u8])
     requires { ⌜ knownKind kind ≡ true ⌝ }
-    requires { ⌜ Passed (depthOf kind) w h (now source) (length (now target)) headBytes ⌝ }
-    ensures { λ _. ⌜ now (target .exit) ≡ fileOf kind w h (now (source .entry)) ++ drop (headBytes + pictureBytes (depthOf kind) w h) (now (target .entry)) ⌝ }
+    requires { ⌜ Admitted Padding.Judged (depthOf kind) w h (now source) headBytes (length (now target)) ⌝ }
+    ensures { λ _. ⌜ now (target .exit)
+        ≡ fileOf kind w h (now (source .entry))
+        ++ drop (headBytes + pictureBytes (depthOf kind) w h) (now (target .entry)) ⌝ }
 {
     let depth = depth_of(kind);
     let face = face_of(kind);
     let head = head_of(kind, w, h);
-    picture::copy_picture(Depth::EightBit, Face::AsIs, &head, target, HEAD, 1);
-    picture::copy_picture(depth, face, source, &mut target[HEAD..], w, h);
+    bytes::copy(&head, target);
+    copies::copy_picture(depth, face, source, &mut target[HEAD..], w, h);
 }
 
 // Writes a picture as a file of the kind.
@@ -206,7 +201,18 @@ pub fn write_ech(kind: usize, w: usize, h: usize, source: &[u8], target: &mut [u
     ensures { λ _. ⌜ now (target .exit) ≡ writeTarget kind w h (now (source .entry)) (now (target .entry)) ⌝ }
 {
     if is_known(kind) {
-        let a = judged(depth_of(kind), w, h, source, target.len(), HEAD);
+        let depth = depth_of(kind);
+        let room = target.len();
+        let a = judge::refusal(
+            Padding::Judged,
+            depth,
+            w,
+            h,
+            source,
+            Answer::Done,
+            HEAD,
+            room,
+        );
         if answer::is_done(a) {
             put_file(kind, w, h, source, target);
             return a;

@@ -1,5 +1,5 @@
 pub mod Words
-pub mod Made
+pub mod WellMade
 pub mod Cells
 pub mod Heights
 pub mod Settled

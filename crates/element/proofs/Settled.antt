@@ -1,4 +1,5 @@
--- Any two outcomes that a contract allows of one call are the same: for each public function, of its contract itself, as the prover reads it.
+-- Any two outcomes that a contract allows of one call are the same:
+-- for each public function, of its contract itself, as the prover reads it.
 use Rattle.answer.proofs.OneToOne.{same-answer}
 use Rattle.basics.proofs.Settled.{Settles, settled}
 use Rattle.element.proofs.cell.Kinds as cell-kinds
@@ -19,10 +20,20 @@ pub cells-end-settled : Settles 0 cells-end-kinds.ps cells-end-kinds.r cells-end
 cells-end-settled κs a x y s t p q = settled p q
 
 pub read-element-settled : Settles 1 read-element-kinds.ps read-element-kinds.r read-element.Learnt
-read-element-settled κs a x y s t p q = λ i. record { answer = same-answer (x .answer) (y .answer) _ (p .0) (q .0) i; element = settled (p .1) (q .1) i }
+read-element-settled κs a x y s t p q =
+    λ i.
+    record {
+      answer = same-answer (x .answer) (y .answer) _ (p .0) (q .0) i;
+      element = settled (p .1) (q .1) i;
+    }
 
 pub read-weighted-settled : Settles 1 read-weighted-kinds.ps read-weighted-kinds.r read-weighted.Learnt
-read-weighted-settled κs a x y s t p q = λ i. record { answer = same-answer (x .answer) (y .answer) _ (p .0) (q .0) i; element = settled (p .1) (q .1) i }
+read-weighted-settled κs a x y s t p q =
+    λ i.
+    record {
+      answer = same-answer (x .answer) (y .answer) _ (p .0) (q .0) i;
+      element = settled (p .1) (q .1) i;
+    }
 
 pub descriptor-len-settled : Settles 1 descriptor-len-kinds.ps descriptor-len-kinds.r descriptor-len.Learnt
 descriptor-len-settled κs a x y s t p q = settled p q

@@ -5,11 +5,8 @@ use mathlib.Core.List.{List}
 use native.Mathlib.Omega.{arith}
 use lib.Dec.{ltb}
 use lib.ListN.{getD}
-use Rattle.element.specs.Record.{wordByte}
-
--- every element of a list is a byte
-abbrev pub Bytes : List ℕ → Type 0
-Bytes d = (i : ℕ) → getD d i 0 < 256
+use Rattle.basics.specs.Bytes.{Bytes}
+use Rattle.element.specs.Steps.Words.{wordByte}
 
 pub word-byte-lt : (d : List ℕ) → Bytes d → (at n j : ℕ) → wordByte d at n j < 256
 unfolding wordByte

@@ -1,3 +1,4 @@
 pub mod Shape
 pub mod Descriptor
 pub mod Record
+pub mod Steps

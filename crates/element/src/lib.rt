@@ -13,17 +13,32 @@ ghost use Rattle.answer.specs.Answer.{told, plain};
 ghost use Rattle.answer.specs.Refuse.{refuse};
 ghost use lib.Dec.{eqb};
 ghost use Rattle.picture.specs.Frame.{Holds};
-ghost use Rattle.element.specs.Descriptor.{mostCells, cellsEnd, cellsMade, wellMade, headMade, heightMade, Weighed, heightsMadeIn, heightsMade, wellWeighted, descriptorLength};
-ghost use Rattle.element.specs.Record.{cellOn, wordByte, wordOf, rowWords, originOf, elementOf, nothing};
+ghost use Rattle.element.specs.Descriptor.{mostCells, cellsEnd, cellsMade, wellMade};
+ghost use Rattle.element.specs.Descriptor.{headMade, heightMade, heightsMadeIn};
+ghost use Rattle.element.specs.Descriptor.{heightsMade, wellWeighted, descriptorLength};
+ghost use Rattle.element.specs.Steps.Heights.{Weighed};
+ghost use Rattle.element.specs.Record.{cellOn, originOf, elementOf, nothing};
+ghost use Rattle.element.specs.Steps.Words.{wordByte, wordOf, rowWords};
 
 // The limit: cells across, and cells down. A row word has a bit for each.
 pub const MOST_CELLS: usize = 32;
 
-pub struct Element {
+// The sign of a height's byte, which alone stands for no height.
+pub const SIGN_BIT: u8 = 128;
+
+// A row of cells: the first cell is the highest bit.
+pub type RowWord = u32;
+
+// An element's size and origin.
+pub struct Outline {
     pub w: usize,
     pub h: usize,
     pub origin: Point,
-    pub rows: [u32; MOST_CELLS],
+}
+
+pub struct Element {
+    pub outline: Outline,
+    pub rows: [RowWord; MOST_CELLS],
 }
 
 // The array stands beside the answer.
@@ -32,10 +47,10 @@ pub struct Read {
     pub element: Element,
 }
 
-fn wide(x: u8) -> u32
+fn wide(x: u8) -> RowWord
     ensures { λ r. ⌜ r ≡ x ⌝ }
 {
-    x as u32
+    x as RowWord
 }
 
 fn size(x: u8) -> usize
@@ -45,7 +60,7 @@ fn size(x: u8) -> usize
 }
 
 // The cell of a column in a row word: the first cell is the highest bit.
-pub fn cell(word: u32, column: Ping) -> bool
+pub fn cell(word: RowWord, column: Ping) -> bool
     requires { ⌜ column .0 < mostCells ⌝ }
     ensures { λ r. ⌜ r ≡ cellOn word (column .0) ⌝ }
 {
@@ -62,7 +77,7 @@ pub fn cells_end(w: usize, h: usize) -> usize
 }
 
 // Byte j of a row of n bytes, 0 past them.
-fn byte_or_none(d: &[u8], at: usize, n: usize, j: usize) -> u32
+fn byte_or_none(d: &[u8], at: usize, n: usize, j: usize) -> RowWord
     requires { ⌜ at + n ≤ length (now d) ⌝ }
     ensures { λ r. ⌜ r ≡ wordByte (now (d .entry)) at n j ⌝ }
 {
@@ -70,11 +85,11 @@ fn byte_or_none(d: &[u8], at: usize, n: usize, j: usize) -> u32
 }
 
 // The row of n bytes from the place `at` on as a row word.
-fn word_at(d: &[u8], at: usize, n: usize) -> u32
+fn word_at(d: &[u8], at: usize, n: usize) -> RowWord
     requires { ⌜ at + n ≤ length (now d) ⌝ }
     ensures { λ r. ⌜ r ≡ wordOf (now (d .entry)) at n ⌝ }
 {
-    let mut v: u32 = 0;
+    let mut v: RowWord = 0;
     let mut j = 0;
     while j < MOST_CELLS / 8 {
         v = (v << 8) | byte_or_none(d, at, n, j);
@@ -84,11 +99,11 @@ fn word_at(d: &[u8], at: usize, n: usize) -> u32
 }
 
 // The words of h rows of n bytes, 0 past them.
-fn words_of(d: &[u8], n: usize, h: usize) -> [u32; MOST_CELLS]
+fn words_of(d: &[u8], n: usize, h: usize) -> [RowWord; MOST_CELLS]
     requires { ⌜ (h ≤ mostCells) × (4 + h * n ≤ length (now d)) ⌝ }
     ensures { λ r. ⌜ r ≡ rowWords (now (d .entry)) n h ⌝ }
 {
-    let mut rows = [0u32; MOST_CELLS];
+    let mut rows = [0; MOST_CELLS];
     let mut r = 0;
     while r < h {
         let at = 4 + r * n;
@@ -168,7 +183,7 @@ fn height_made(set: u8, g: u8) -> bool
     ensures { λ r. ⌜ r ≡ heightMade (eqb set 1) g ⌝ }
 {
     if set == 1 {
-        return g != 128;
+        return g != SIGN_BIT;
     }
     g == 0
 }
@@ -239,28 +254,30 @@ fn element_at(d: &[u8]) -> Element
     let h = size(d[1]);
     let rows = words_of(d, picture::row_bytes(Depth::OneBit, w), h);
     let origin = origin_of(d);
-    Element { w, h, origin, rows }
+    let outline = Outline { w, h, origin };
+    Element { outline, rows }
 }
 
 fn no_element() -> Element
     ensures { λ r. ⌜ r ≡ nothing ⌝ }
 {
-    let rows = [0u32; MOST_CELLS];
-    Element {
+    let rows = [0; MOST_CELLS];
+    let outline = Outline {
         w: 0,
         h: 0,
         origin: Point {
             ping: Ping(0),
             bin: Bin(0),
         },
-        rows,
-    }
+    };
+    Element { outline, rows }
 }
 
 // The element of bytes that were found well made, or SHAPE.
 fn read_if(made: bool, d: &[u8]) -> Read
     requires { ⌜ (made ≡ true → cellsMade (now d) ≡ true) ⌝ }
-    ensures { λ r. ⌜ (told (r .answer) ≡ refuse ((not made, 4) ∷ []) (plain 0)) × (r .element ≡ cond made (elementOf (now (d .entry))) nothing) ⌝ }
+    ensures { λ r. ⌜ (told (r .answer) ≡ refuse ((not made, 4) ∷ []) (plain 0))
+        × (r .element ≡ cond made (elementOf (now (d .entry))) nothing) ⌝ }
 {
     if made {
         let element = element_at(d);
@@ -278,7 +295,8 @@ fn read_if(made: bool, d: &[u8]) -> Read
 
 // The element of an unweighted descriptor, or SHAPE.
 pub fn read_element(d: &[u8]) -> Read
-    ensures { λ r. ⌜ (told (r .answer) ≡ refuse ((not (wellMade (now (d .entry))), 4) ∷ []) (plain 0)) × (r .element ≡ cond (wellMade (now (d .entry))) (elementOf (now (d .entry))) nothing) ⌝ }
+    ensures { λ r. ⌜ (told (r .answer) ≡ refuse ((not (wellMade (now (d .entry))), 4) ∷ []) (plain 0))
+        × (r .element ≡ cond (wellMade (now (d .entry))) (elementOf (now (d .entry))) nothing) ⌝ }
 {
     let made = well_made(d);
     read_if(made, d)
@@ -286,13 +304,15 @@ pub fn read_element(d: &[u8]) -> Read
 
 // The element of a weighted descriptor, or SHAPE. Its heights stay where they stand, from `cells_end` on.
 pub fn read_weighted(d: &[u8]) -> Read
-    ensures { λ r. ⌜ (told (r .answer) ≡ refuse ((not (wellWeighted (now (d .entry))), 4) ∷ []) (plain 0)) × (r .element ≡ cond (wellWeighted (now (d .entry))) (elementOf (now (d .entry))) nothing) ⌝ }
+    ensures { λ r. ⌜ (told (r .answer) ≡ refuse ((not (wellWeighted (now (d .entry))), 4) ∷ []) (plain 0))
+        × (r .element ≡ cond (wellWeighted (now (d .entry))) (elementOf (now (d .entry))) nothing) ⌝ }
 {
     let made = well_weighted(d);
     read_if(made, d)
 }
 
-// How many of the bytes d, which may go on, are a descriptor by its own w and h; all of them where it is cut short.
+// How many of the bytes d, which may go on,
+// are a descriptor by its own w and h; all of them where it is cut short.
 pub fn descriptor_len(d: &[u8]) -> usize
     ensures { λ r. ⌜ r ≡ descriptorLength (now (d .entry)) ⌝ }
 {

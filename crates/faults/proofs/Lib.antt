@@ -1,4 +1,5 @@
+pub mod Offsets
 pub mod Fixed
 pub mod Seek
-pub mod Laws
+pub mod Fault
 pub mod Settled

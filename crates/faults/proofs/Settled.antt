@@ -1,4 +1,5 @@
--- Any two outcomes that a contract allows of one call are the same: for each public function, of its contract itself, as the prover reads it.
+-- Any two outcomes that a contract allows of one call are the same:
+-- for each public function, of its contract itself, as the prover reads it.
 use Rattle.answer.proofs.OneToOne.{same-answer}
 use Rattle.basics.proofs.Settled.{Settles}
 use Rattle.faults.proofs.check.Kinds as check-kinds

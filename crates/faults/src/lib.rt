@@ -1,10 +1,12 @@
-// The chain check on elements by value: the first offset, in row order, at which an element and the chain of its links part.
+// The chain check on elements by value:
+// the first offset, in row order, at which an element and the chain of its links part.
 use answer::Answer;
+use answer::CENTRE;
 use element::Element;
 use element::MOST_CELLS;
+use element::Outline;
+use element::RowWord;
 use picture::Ping;
-use picture::Point;
-use reach::CENTRE;
 use reach::MOST_LINKS;
 use reach::Offset;
 use reach::SUMS;
@@ -14,27 +16,31 @@ ghost use Prim.Native.Nat.{_≤_, _<_};
 ghost use lib.ListN.{take};
 ghost use Rattle.answer.specs.Answer.{told};
 ghost use Rattle.element.specs.Descriptor.{mostCells};
-ghost use Rattle.element.specs.Record.{shapeOf};
+ghost use Rattle.element.specs.Record.{shapeOf, shapeBy};
 ghost use Rattle.morphology.specs.Chain.{mostLinks, Chained};
 ghost use Rattle.morphology.specs.Check.{hasTest, pathTest, checkOf};
-ghost use Rattle.reach.specs.Boards.{shapesOf, placeOf, holdsOf, Small, Linked};
-ghost use Rattle.faults.specs.Faults.{elementWith, faultBy, offsetNo, allOffsets, answerOf, OneByte};
+ghost use Rattle.reach.specs.Steps.Links.{shapesOf, placeOf, OneByte, Linked};
+ghost use Rattle.reach.specs.Steps.Boards.{holdsOf, Small};
+ghost use Rattle.faults.specs.Verdicts.{answerOf};
+ghost use Rattle.faults.specs.Steps.Scan.{faultBy, offsetNo, allOffsets};
 
-// No offset of an element and no sum of a chain lies further than this from 0: the first offset of a row that is scanned, how many a row has, and all.
+// No offset of an element and no sum of a chain lies further from 0.
 const FAR: usize = 63;
 
-const FIRST: usize = CENTRE - FAR;
+// Where such an offset stands at the least, how many there are in a row, and in all.
+const LEAST: usize = CENTRE - FAR;
 
 const ROW: usize = FAR + 1 + FAR;
 
 const ALL: usize = ROW * ROW;
 
 // The element has the offset.
-fn has(cells: &[u32; MOST_CELLS], w: usize, h: usize, origin: Point, at: Offset) -> bool
-    requires { ⌜ (w ≤ mostCells) × (h ≤ mostCells) ⌝ }
+fn has(cells: &[RowWord; MOST_CELLS], outline: Outline, at: Offset) -> bool
+    requires { ⌜ (outline .w ≤ mostCells) × (outline .h ≤ mostCells) ⌝ }
     requires { ⌜ OneByte at ⌝ }
-    ensures { λ r. ⌜ r ≡ hasTest (shapeOf (elementWith (now (cells .entry)) w h origin)) (placeOf at) ⌝ }
+    ensures { λ r. ⌜ r ≡ hasTest (shapeBy outline (now (cells .entry))) (placeOf at) ⌝ }
 {
+    let origin = outline.origin;
     let p = origin.ping;
     let b = origin.bin;
     let column = at.x + p.0 as usize;
@@ -45,35 +51,35 @@ fn has(cells: &[u32; MOST_CELLS], w: usize, h: usize, origin: Point, at: Offset)
     if row < CENTRE {
         return false;
     }
-    if w <= column - CENTRE {
+    if outline.w <= column - CENTRE {
         return false;
     }
-    if h <= row - CENTRE {
+    if outline.h <= row - CENTRE {
         return false;
     }
     element::cell(cells[row - CENTRE], Ping((column - CENTRE) as u16))
 }
 
-// The offset is at fault, by the board of all sums, on which `zero` stands for the offset (0, 0). A path is looked for only where the element has the offset and it is a sum.
+// The offset is at fault, by the board of all sums, on which `zero` stands for the offset (0, 0).
+// A path is looked for only where the element has the offset and it is a sum.
 fn at_fault(
-    cells: &[u32; MOST_CELLS],
-    w: usize,
-    h: usize,
-    origin: Point,
+    cells: &[RowWord; MOST_CELLS],
+    outline: Outline,
     words: &[u64; SUMS],
     zero: Sum,
     links: [Element; MOST_LINKS],
     k: usize,
     at: Offset,
 ) -> bool
-    requires { ⌜ (w ≤ mostCells) × (h ≤ mostCells) ⌝ }
+    requires { ⌜ (outline .w ≤ mostCells) × (outline .h ≤ mostCells) ⌝ }
     requires { ⌜ Small zero ⌝ }
     requires { ⌜ Linked links k ⌝ }
     requires { ⌜ OneByte at ⌝ }
-    ensures { λ r. ⌜ r ≡ faultBy (hasTest (shapeOf (elementWith (now (cells .entry)) w h origin)) (placeOf at)) (holdsOf (now (words .entry)) zero at) (pathTest (shapesOf (take k links)) (placeOf at)) ⌝ }
+    ensures { λ r. ⌜ r ≡ faultBy (hasTest (shapeBy outline (now (cells .entry))) (placeOf at))
+        (holdsOf (now (words .entry)) zero at) (pathTest (shapesOf (take k links)) (placeOf at)) ⌝ }
 {
     let sum = reach::holds(words, zero, at);
-    if has(cells, w, h, origin, at) {
+    if has(cells, outline, at) {
         if sum {
             return !reach::path(links, k, at);
         }
@@ -82,14 +88,14 @@ fn at_fault(
     sum
 }
 
-// The offsets from -63 to 63, row after row, by number.
+// The offsets from -FAR to FAR, row after row, by number.
 fn offset_no(n: usize) -> Offset
     requires { ⌜ n < allOffsets ⌝ }
     ensures { λ r. ⌜ (r ≡ offsetNo n) × OneByte r ⌝ }
 {
     Offset {
-        x: FIRST + n % ROW,
-        y: FIRST + n / ROW,
+        x: LEAST + n % ROW,
+        y: LEAST + n / ROW,
     }
 }
 
@@ -100,22 +106,13 @@ pub fn check(e: Element, links: [Element; MOST_LINKS], k: usize) -> Answer
     ensures { λ r. ⌜ told r ≡ told (answerOf (checkOf (shapeOf e) (shapesOf (take k links)))) ⌝ }
 {
     let cells = e.rows;
+    let outline = e.outline;
     let sums = reach::all_sums(links, k);
     let words = sums.words;
     let mut n = 0;
     while n < ALL {
         let at = offset_no(n);
-        if at_fault(
-            &cells,
-            e.w,
-            e.h,
-            e.origin,
-            &words,
-            sums.origin,
-            links,
-            k,
-            at,
-        ) {
+        if at_fault(&cells, outline, &words, sums.origin, links, k, at) {
             return Answer::Split(at.x as u8, at.y as u8);
         }
         n += 1;

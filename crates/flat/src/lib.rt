@@ -1,5 +1,7 @@
-// Flat erosion, dilation, opening and closing as a user calls them: the answer and every lent byte are settled for all inputs.
+// Flat erosion, dilation, opening and closing as a user calls them:
+// the answer and every lent byte are settled for all inputs.
 use answer::Answer;
+use judge::Padding;
 use picture::Depth;
 use rows::Way;
 ghost use mathlib.Core.Path.{_≡_};
@@ -8,7 +10,77 @@ ghost use lib.ListN.{length};
 ghost use Rattle.answer.specs.Answer.{told};
 ghost use Rattle.picture.specs.Frame.{top};
 ghost use Rattle.morphology.specs.Operations as defined;
-ghost use Rattle.flat.specs.Calls.{flatAnswer, flatLeft};
+ghost use Rattle.rows.specs.Steps.Ways.{growsOf};
+ghost use Rattle.flat.specs.Flat.{flatAnswer, flatLeft};
+ghost use Rattle.flat.specs.Steps.Ways.{onceBy, twiceBy};
+
+// One operation, from the source into the target.
+fn run(
+    depth: Depth,
+    way: Way,
+    w: usize,
+    h: usize,
+    source: &[u8],
+    element: &[u8],
+    target: &mut [u8],
+) -> Answer
+    ensures answer { λ r. ⌜
+        told r
+        ≡ flatAnswer depth w h (now (source .entry)) (now (element .entry))
+        (length (now (target .entry))) ⌝ }
+    ensures bytes { λ _. ⌜
+        now (target .exit)
+        ≡ flatLeft depth (onceBy (growsOf way) depth) w h (now (source .entry)) (now (element .entry))
+        (length (now (target .entry))) (now (target .entry)) ⌝ }
+{
+    let read = element::read_element(element);
+    let shape = read.answer;
+    let e = read.element;
+    let room = target.len();
+    let no = judge::refusal(Padding::Judged, depth, w, h, source, shape, 0, room);
+    if answer::is_done(no) {
+        apply::flat(depth, way, w, h, source, e, target);
+        return no;
+    }
+    no
+}
+
+// Two operations by one element:
+// the first from the source into the scratch, the other from there into the target.
+fn run_twice(
+    depth: Depth,
+    first: Way,
+    w: usize,
+    h: usize,
+    source: &[u8],
+    element: &[u8],
+    target: &mut [u8],
+    scratch: &mut [u8],
+) -> Answer
+    ensures answer { λ r. ⌜
+        told r
+        ≡ flatAnswer depth w h (now (source .entry)) (now (element .entry))
+        (min (length (now (target .entry))) (length (now (scratch .entry)))) ⌝ }
+    ensures bytes { λ _. ⌜
+        now (target .exit)
+        ≡ flatLeft depth (twiceBy (growsOf first) depth) w h (now (source .entry)) (now (element .entry))
+        (min (length (now (target .entry))) (length (now (scratch .entry)))) (now (target .entry)) ⌝ }
+    ensures middle { λ _. ⌜
+        now (scratch .exit)
+        ≡ flatLeft depth (onceBy (growsOf first) depth) w h (now (source .entry)) (now (element .entry))
+        (min (length (now (target .entry))) (length (now (scratch .entry)))) (now (scratch .entry)) ⌝ }
+{
+    let read = element::read_element(element);
+    let shape = read.answer;
+    let e = read.element;
+    let room = basics::lesser(target.len(), scratch.len());
+    let no = judge::refusal(Padding::Judged, depth, w, h, source, shape, 0, room);
+    if answer::is_done(no) {
+        apply::flat_twice(depth, first, w, h, source, e, target, scratch);
+        return no;
+    }
+    no
+}
 
 // Erosion of the w x h picture in the source by the element of a descriptor, into the target.
 pub fn erode(
@@ -19,10 +91,16 @@ pub fn erode(
     element: &[u8],
     target: &mut [u8],
 ) -> Answer
-    ensures answer { λ r. ⌜ told r ≡ flatAnswer depth w h (now (source .entry)) (now (element .entry)) (length (now (target .entry))) ⌝ }
-    ensures bytes { λ _. ⌜ now (target .exit) ≡ flatLeft depth (defined.erode (top depth)) w h (now (source .entry)) (now (element .entry)) (length (now (target .entry))) (now (target .entry)) ⌝ }
+    ensures answer { λ r. ⌜
+        told r
+        ≡ flatAnswer depth w h (now (source .entry)) (now (element .entry))
+        (length (now (target .entry))) ⌝ }
+    ensures bytes { λ _. ⌜
+        now (target .exit)
+        ≡ flatLeft depth (defined.erode (top depth)) w h (now (source .entry)) (now (element .entry))
+        (length (now (target .entry))) (now (target .entry)) ⌝ }
 {
-    operation::run(false, depth, Way::Erode, w, h, source, element, target)
+    run(depth, Way::Erode, w, h, source, element, target)
 }
 
 // Dilation.
@@ -34,10 +112,16 @@ pub fn dilate(
     element: &[u8],
     target: &mut [u8],
 ) -> Answer
-    ensures answer { λ r. ⌜ told r ≡ flatAnswer depth w h (now (source .entry)) (now (element .entry)) (length (now (target .entry))) ⌝ }
-    ensures bytes { λ _. ⌜ now (target .exit) ≡ flatLeft depth defined.dilate w h (now (source .entry)) (now (element .entry)) (length (now (target .entry))) (now (target .entry)) ⌝ }
+    ensures answer { λ r. ⌜
+        told r
+        ≡ flatAnswer depth w h (now (source .entry)) (now (element .entry))
+        (length (now (target .entry))) ⌝ }
+    ensures bytes { λ _. ⌜
+        now (target .exit)
+        ≡ flatLeft depth defined.dilate w h (now (source .entry)) (now (element .entry))
+        (length (now (target .entry))) (now (target .entry)) ⌝ }
 {
-    operation::run(false, depth, Way::Dilate, w, h, source, element, target)
+    run(depth, Way::Dilate, w, h, source, element, target)
 }
 
 // Opening: the scratch holds the eroded picture afterwards.
@@ -50,12 +134,20 @@ pub fn open(
     target: &mut [u8],
     scratch: &mut [u8],
 ) -> Answer
-    ensures answer { λ r. ⌜ told r ≡ flatAnswer depth w h (now (source .entry)) (now (element .entry)) (min (length (now (target .entry))) (length (now (scratch .entry)))) ⌝ }
-    ensures bytes { λ _. ⌜ now (target .exit) ≡ flatLeft depth (defined.opening (top depth)) w h (now (source .entry)) (now (element .entry)) (min (length (now (target .entry))) (length (now (scratch .entry)))) (now (target .entry)) ⌝ }
-    ensures middle { λ _. ⌜ now (scratch .exit) ≡ flatLeft depth (defined.erode (top depth)) w h (now (source .entry)) (now (element .entry)) (min (length (now (target .entry))) (length (now (scratch .entry)))) (now (scratch .entry)) ⌝ }
+    ensures answer { λ r. ⌜
+        told r
+        ≡ flatAnswer depth w h (now (source .entry)) (now (element .entry))
+        (min (length (now (target .entry))) (length (now (scratch .entry)))) ⌝ }
+    ensures bytes { λ _. ⌜
+        now (target .exit)
+        ≡ flatLeft depth (defined.opening (top depth)) w h (now (source .entry)) (now (element .entry))
+        (min (length (now (target .entry))) (length (now (scratch .entry)))) (now (target .entry)) ⌝ }
+    ensures middle { λ _. ⌜
+        now (scratch .exit)
+        ≡ flatLeft depth (defined.erode (top depth)) w h (now (source .entry)) (now (element .entry))
+        (min (length (now (target .entry))) (length (now (scratch .entry)))) (now (scratch .entry)) ⌝ }
 {
-    let first = Way::Erode;
-    operation::run_twice(false, depth, first, w, h, source, element, target, scratch)
+    run_twice(depth, Way::Erode, w, h, source, element, target, scratch)
 }
 
 // Closing: the scratch holds the dilated picture afterwards.
@@ -68,10 +160,18 @@ pub fn close(
     target: &mut [u8],
     scratch: &mut [u8],
 ) -> Answer
-    ensures answer { λ r. ⌜ told r ≡ flatAnswer depth w h (now (source .entry)) (now (element .entry)) (min (length (now (target .entry))) (length (now (scratch .entry)))) ⌝ }
-    ensures bytes { λ _. ⌜ now (target .exit) ≡ flatLeft depth (defined.closing (top depth)) w h (now (source .entry)) (now (element .entry)) (min (length (now (target .entry))) (length (now (scratch .entry)))) (now (target .entry)) ⌝ }
-    ensures middle { λ _. ⌜ now (scratch .exit) ≡ flatLeft depth defined.dilate w h (now (source .entry)) (now (element .entry)) (min (length (now (target .entry))) (length (now (scratch .entry)))) (now (scratch .entry)) ⌝ }
+    ensures answer { λ r. ⌜
+        told r
+        ≡ flatAnswer depth w h (now (source .entry)) (now (element .entry))
+        (min (length (now (target .entry))) (length (now (scratch .entry)))) ⌝ }
+    ensures bytes { λ _. ⌜
+        now (target .exit)
+        ≡ flatLeft depth (defined.closing (top depth)) w h (now (source .entry)) (now (element .entry))
+        (min (length (now (target .entry))) (length (now (scratch .entry)))) (now (target .entry)) ⌝ }
+    ensures middle { λ _. ⌜
+        now (scratch .exit)
+        ≡ flatLeft depth defined.dilate w h (now (source .entry)) (now (element .entry))
+        (min (length (now (target .entry))) (length (now (scratch .entry)))) (now (scratch .entry)) ⌝ }
 {
-    let begin = Way::Dilate;
-    operation::run_twice(false, depth, begin, w, h, source, element, target, scratch)
+    run_twice(depth, Way::Dilate, w, h, source, element, target, scratch)
 }

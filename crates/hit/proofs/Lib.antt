@@ -1,3 +1,3 @@
 pub mod Settled
 pub mod Hit
-pub mod Pair
+pub mod Pairs

@@ -1,1 +1,2 @@
 pub mod Hit
+pub mod Steps

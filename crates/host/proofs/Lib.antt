@@ -1,3 +1,2 @@
-pub mod Few
-pub mod Runs
+pub mod ReadPacked
 pub mod Settled

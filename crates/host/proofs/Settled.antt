@@ -1,4 +1,5 @@
--- Any two outcomes that a contract allows of one call are the same: for each entry point, of its contract itself, as the prover reads it.
+-- Any two outcomes that a contract allows of one call are the same:
+-- for each entry point, of its contract itself, as the prover reads it.
 use Rattle.basics.proofs.Settled.{Settles, SettlesBytes, settled}
 use Rattle.host.proofs.qik_erode1.Kinds as qik-erode1-kinds
 use Rattle.host.proofs.qik_erode1.Reads as qik-erode1
@@ -44,146 +45,185 @@ use Rattle.host.proofs.qik_weighted_close.Reads as qik-weighted-close
 pub qik-erode1-settled : Settles 3 qik-erode1-kinds.ps qik-erode1-kinds.r qik-erode1.Learnt
 qik-erode1-settled κs a x y s t p q = settled (p .0) (q .0)
 
-pub qik-erode1-settled-target : SettlesBytes 3 qik-erode1-kinds.ps qik-erode1-kinds.r qik-erode1.Learnt (λ κs e. e .1 .1 .1 .1 .0 .now)
+pub qik-erode1-settled-target : SettlesBytes 3 qik-erode1-kinds.ps
+    qik-erode1-kinds.r qik-erode1.Learnt (λ κs e. e .1 .1 .1 .1 .0 .now)
 qik-erode1-settled-target κs a x y s t p q = settled (p .1) (q .1)
 
 pub qik-dilate1-settled : Settles 3 qik-dilate1-kinds.ps qik-dilate1-kinds.r qik-dilate1.Learnt
 qik-dilate1-settled κs a x y s t p q = settled (p .0) (q .0)
 
-pub qik-dilate1-settled-target : SettlesBytes 3 qik-dilate1-kinds.ps qik-dilate1-kinds.r qik-dilate1.Learnt (λ κs e. e .1 .1 .1 .1 .0 .now)
+pub qik-dilate1-settled-target : SettlesBytes 3 qik-dilate1-kinds.ps
+    qik-dilate1-kinds.r qik-dilate1.Learnt (λ κs e. e .1 .1 .1 .1 .0 .now)
 qik-dilate1-settled-target κs a x y s t p q = settled (p .1) (q .1)
 
 pub qik-open1-settled : Settles 4 qik-open1-kinds.ps qik-open1-kinds.r qik-open1.Learnt
 qik-open1-settled κs a x y s t p q = settled (p .0) (q .0)
 
-pub qik-open1-settled-target : SettlesBytes 4 qik-open1-kinds.ps qik-open1-kinds.r qik-open1.Learnt (λ κs e. e .1 .1 .1 .1 .0 .now)
+pub qik-open1-settled-target : SettlesBytes 4 qik-open1-kinds.ps
+    qik-open1-kinds.r qik-open1.Learnt (λ κs e. e .1 .1 .1 .1 .0 .now)
 qik-open1-settled-target κs a x y s t p q = settled (p .1 .0) (q .1 .0)
 
-pub qik-open1-settled-scratch : SettlesBytes 4 qik-open1-kinds.ps qik-open1-kinds.r qik-open1.Learnt (λ κs e. e .1 .1 .1 .1 .1 .0 .now)
+pub qik-open1-settled-scratch : SettlesBytes 4 qik-open1-kinds.ps
+    qik-open1-kinds.r qik-open1.Learnt (λ κs e. e .1 .1 .1 .1 .1 .0 .now)
 qik-open1-settled-scratch κs a x y s t p q = settled (p .1 .1) (q .1 .1)
 
 pub qik-close1-settled : Settles 4 qik-close1-kinds.ps qik-close1-kinds.r qik-close1.Learnt
 qik-close1-settled κs a x y s t p q = settled (p .0) (q .0)
 
-pub qik-close1-settled-target : SettlesBytes 4 qik-close1-kinds.ps qik-close1-kinds.r qik-close1.Learnt (λ κs e. e .1 .1 .1 .1 .0 .now)
+pub qik-close1-settled-target : SettlesBytes 4 qik-close1-kinds.ps
+    qik-close1-kinds.r qik-close1.Learnt (λ κs e. e .1 .1 .1 .1 .0 .now)
 qik-close1-settled-target κs a x y s t p q = settled (p .1 .0) (q .1 .0)
 
-pub qik-close1-settled-scratch : SettlesBytes 4 qik-close1-kinds.ps qik-close1-kinds.r qik-close1.Learnt (λ κs e. e .1 .1 .1 .1 .1 .0 .now)
+pub qik-close1-settled-scratch : SettlesBytes 4 qik-close1-kinds.ps
+    qik-close1-kinds.r qik-close1.Learnt (λ κs e. e .1 .1 .1 .1 .1 .0 .now)
 qik-close1-settled-scratch κs a x y s t p q = settled (p .1 .1) (q .1 .1)
 
 pub qik-erode8-settled : Settles 3 qik-erode8-kinds.ps qik-erode8-kinds.r qik-erode8.Learnt
 qik-erode8-settled κs a x y s t p q = settled (p .0) (q .0)
 
-pub qik-erode8-settled-target : SettlesBytes 3 qik-erode8-kinds.ps qik-erode8-kinds.r qik-erode8.Learnt (λ κs e. e .1 .1 .1 .1 .0 .now)
+pub qik-erode8-settled-target : SettlesBytes 3 qik-erode8-kinds.ps
+    qik-erode8-kinds.r qik-erode8.Learnt (λ κs e. e .1 .1 .1 .1 .0 .now)
 qik-erode8-settled-target κs a x y s t p q = settled (p .1) (q .1)
 
 pub qik-dilate8-settled : Settles 3 qik-dilate8-kinds.ps qik-dilate8-kinds.r qik-dilate8.Learnt
 qik-dilate8-settled κs a x y s t p q = settled (p .0) (q .0)
 
-pub qik-dilate8-settled-target : SettlesBytes 3 qik-dilate8-kinds.ps qik-dilate8-kinds.r qik-dilate8.Learnt (λ κs e. e .1 .1 .1 .1 .0 .now)
+pub qik-dilate8-settled-target : SettlesBytes 3 qik-dilate8-kinds.ps
+    qik-dilate8-kinds.r qik-dilate8.Learnt (λ κs e. e .1 .1 .1 .1 .0 .now)
 qik-dilate8-settled-target κs a x y s t p q = settled (p .1) (q .1)
 
 pub qik-open8-settled : Settles 4 qik-open8-kinds.ps qik-open8-kinds.r qik-open8.Learnt
 qik-open8-settled κs a x y s t p q = settled (p .0) (q .0)
 
-pub qik-open8-settled-target : SettlesBytes 4 qik-open8-kinds.ps qik-open8-kinds.r qik-open8.Learnt (λ κs e. e .1 .1 .1 .1 .0 .now)
+pub qik-open8-settled-target : SettlesBytes 4 qik-open8-kinds.ps
+    qik-open8-kinds.r qik-open8.Learnt (λ κs e. e .1 .1 .1 .1 .0 .now)
 qik-open8-settled-target κs a x y s t p q = settled (p .1 .0) (q .1 .0)
 
-pub qik-open8-settled-scratch : SettlesBytes 4 qik-open8-kinds.ps qik-open8-kinds.r qik-open8.Learnt (λ κs e. e .1 .1 .1 .1 .1 .0 .now)
+pub qik-open8-settled-scratch : SettlesBytes 4 qik-open8-kinds.ps
+    qik-open8-kinds.r qik-open8.Learnt (λ κs e. e .1 .1 .1 .1 .1 .0 .now)
 qik-open8-settled-scratch κs a x y s t p q = settled (p .1 .1) (q .1 .1)
 
 pub qik-close8-settled : Settles 4 qik-close8-kinds.ps qik-close8-kinds.r qik-close8.Learnt
 qik-close8-settled κs a x y s t p q = settled (p .0) (q .0)
 
-pub qik-close8-settled-target : SettlesBytes 4 qik-close8-kinds.ps qik-close8-kinds.r qik-close8.Learnt (λ κs e. e .1 .1 .1 .1 .0 .now)
+pub qik-close8-settled-target : SettlesBytes 4 qik-close8-kinds.ps
+    qik-close8-kinds.r qik-close8.Learnt (λ κs e. e .1 .1 .1 .1 .0 .now)
 qik-close8-settled-target κs a x y s t p q = settled (p .1 .0) (q .1 .0)
 
-pub qik-close8-settled-scratch : SettlesBytes 4 qik-close8-kinds.ps qik-close8-kinds.r qik-close8.Learnt (λ κs e. e .1 .1 .1 .1 .1 .0 .now)
+pub qik-close8-settled-scratch : SettlesBytes 4 qik-close8-kinds.ps
+    qik-close8-kinds.r qik-close8.Learnt (λ κs e. e .1 .1 .1 .1 .1 .0 .now)
 qik-close8-settled-scratch κs a x y s t p q = settled (p .1 .1) (q .1 .1)
 
-pub qik-hit-or-miss-settled : Settles 4 qik-hit-or-miss-kinds.ps qik-hit-or-miss-kinds.r qik-hit-or-miss.Learnt
+pub qik-hit-or-miss-settled : Settles 4 qik-hit-or-miss-kinds.ps
+    qik-hit-or-miss-kinds.r qik-hit-or-miss.Learnt
 qik-hit-or-miss-settled κs a x y s t p q = settled (p .0) (q .0)
 
-pub qik-hit-or-miss-settled-target : SettlesBytes 4 qik-hit-or-miss-kinds.ps qik-hit-or-miss-kinds.r qik-hit-or-miss.Learnt (λ κs e. e .1 .1 .1 .1 .1 .0 .now)
+pub qik-hit-or-miss-settled-target : SettlesBytes 4 qik-hit-or-miss-kinds.ps
+    qik-hit-or-miss-kinds.r qik-hit-or-miss.Learnt (λ κs e. e .1 .1 .1 .1 .1 .0 .now)
 qik-hit-or-miss-settled-target κs a x y s t p q = settled (p .1) (q .1)
 
-pub qik-check-chain-settled : Settles 2 qik-check-chain-kinds.ps qik-check-chain-kinds.r qik-check-chain.Learnt
+pub qik-check-chain-settled : Settles 2 qik-check-chain-kinds.ps
+    qik-check-chain-kinds.r qik-check-chain.Learnt
 qik-check-chain-settled κs a x y s t p q = settled p q
 
 pub qik-ech-read-settled : Settles 2 qik-ech-read-kinds.ps qik-ech-read-kinds.r qik-ech-read.Learnt
 qik-ech-read-settled κs a x y s t p q = settled (p .0) (q .0)
 
-pub qik-ech-read-settled-target : SettlesBytes 2 qik-ech-read-kinds.ps qik-ech-read-kinds.r qik-ech-read.Learnt (λ κs e. e .1 .0 .now)
+pub qik-ech-read-settled-target : SettlesBytes 2 qik-ech-read-kinds.ps
+    qik-ech-read-kinds.r qik-ech-read.Learnt (λ κs e. e .1 .0 .now)
 qik-ech-read-settled-target κs a x y s t p q = settled (p .1) (q .1)
 
 pub qik-ech-write-settled : Settles 2 qik-ech-write-kinds.ps qik-ech-write-kinds.r qik-ech-write.Learnt
 qik-ech-write-settled κs a x y s t p q = settled (p .0) (q .0)
 
-pub qik-ech-write-settled-target : SettlesBytes 2 qik-ech-write-kinds.ps qik-ech-write-kinds.r qik-ech-write.Learnt (λ κs e. e .1 .1 .1 .1 .0 .now)
+pub qik-ech-write-settled-target : SettlesBytes 2 qik-ech-write-kinds.ps
+    qik-ech-write-kinds.r qik-ech-write.Learnt (λ κs e. e .1 .1 .1 .1 .0 .now)
 qik-ech-write-settled-target κs a x y s t p q = settled (p .1) (q .1)
 
-pub qik-chain-erode1-settled : Settles 5 qik-chain-erode1-kinds.ps qik-chain-erode1-kinds.r qik-chain-erode1.Learnt
+pub qik-chain-erode1-settled : Settles 5 qik-chain-erode1-kinds.ps
+    qik-chain-erode1-kinds.r qik-chain-erode1.Learnt
 qik-chain-erode1-settled κs a x y s t p q = settled (p .0) (q .0)
 
-pub qik-chain-erode1-settled-first : SettlesBytes 5 qik-chain-erode1-kinds.ps qik-chain-erode1-kinds.r qik-chain-erode1.Learnt (λ κs e. e .1 .1 .1 .1 .1 .1 .0 .now)
+pub qik-chain-erode1-settled-first : SettlesBytes 5 qik-chain-erode1-kinds.ps
+    qik-chain-erode1-kinds.r qik-chain-erode1.Learnt (λ κs e. e .1 .1 .1 .1 .1 .1 .0 .now)
 qik-chain-erode1-settled-first κs a x y s t p q = settled (p .1 .0) (q .1 .0)
 
-pub qik-chain-erode1-settled-second : SettlesBytes 5 qik-chain-erode1-kinds.ps qik-chain-erode1-kinds.r qik-chain-erode1.Learnt (λ κs e. e .1 .1 .1 .1 .1 .1 .1 .0 .now)
+pub qik-chain-erode1-settled-second : SettlesBytes 5 qik-chain-erode1-kinds.ps
+    qik-chain-erode1-kinds.r qik-chain-erode1.Learnt (λ κs e. e .1 .1 .1 .1 .1 .1 .1 .0 .now)
 qik-chain-erode1-settled-second κs a x y s t p q = settled (p .1 .1) (q .1 .1)
 
-pub qik-chain-erode8-settled : Settles 5 qik-chain-erode8-kinds.ps qik-chain-erode8-kinds.r qik-chain-erode8.Learnt
+pub qik-chain-erode8-settled : Settles 5 qik-chain-erode8-kinds.ps
+    qik-chain-erode8-kinds.r qik-chain-erode8.Learnt
 qik-chain-erode8-settled κs a x y s t p q = settled (p .0) (q .0)
 
-pub qik-chain-erode8-settled-first : SettlesBytes 5 qik-chain-erode8-kinds.ps qik-chain-erode8-kinds.r qik-chain-erode8.Learnt (λ κs e. e .1 .1 .1 .1 .1 .1 .0 .now)
+pub qik-chain-erode8-settled-first : SettlesBytes 5 qik-chain-erode8-kinds.ps
+    qik-chain-erode8-kinds.r qik-chain-erode8.Learnt (λ κs e. e .1 .1 .1 .1 .1 .1 .0 .now)
 qik-chain-erode8-settled-first κs a x y s t p q = settled (p .1 .0) (q .1 .0)
 
-pub qik-chain-erode8-settled-second : SettlesBytes 5 qik-chain-erode8-kinds.ps qik-chain-erode8-kinds.r qik-chain-erode8.Learnt (λ κs e. e .1 .1 .1 .1 .1 .1 .1 .0 .now)
+pub qik-chain-erode8-settled-second : SettlesBytes 5 qik-chain-erode8-kinds.ps
+    qik-chain-erode8-kinds.r qik-chain-erode8.Learnt (λ κs e. e .1 .1 .1 .1 .1 .1 .1 .0 .now)
 qik-chain-erode8-settled-second κs a x y s t p q = settled (p .1 .1) (q .1 .1)
 
-pub qik-chain-dilate1-settled : Settles 5 qik-chain-dilate1-kinds.ps qik-chain-dilate1-kinds.r qik-chain-dilate1.Learnt
+pub qik-chain-dilate1-settled : Settles 5 qik-chain-dilate1-kinds.ps
+    qik-chain-dilate1-kinds.r qik-chain-dilate1.Learnt
 qik-chain-dilate1-settled κs a x y s t p q = settled (p .0) (q .0)
 
-pub qik-chain-dilate1-settled-first : SettlesBytes 5 qik-chain-dilate1-kinds.ps qik-chain-dilate1-kinds.r qik-chain-dilate1.Learnt (λ κs e. e .1 .1 .1 .1 .1 .1 .0 .now)
+pub qik-chain-dilate1-settled-first : SettlesBytes 5 qik-chain-dilate1-kinds.ps
+    qik-chain-dilate1-kinds.r qik-chain-dilate1.Learnt (λ κs e. e .1 .1 .1 .1 .1 .1 .0 .now)
 qik-chain-dilate1-settled-first κs a x y s t p q = settled (p .1 .0) (q .1 .0)
 
-pub qik-chain-dilate1-settled-second : SettlesBytes 5 qik-chain-dilate1-kinds.ps qik-chain-dilate1-kinds.r qik-chain-dilate1.Learnt (λ κs e. e .1 .1 .1 .1 .1 .1 .1 .0 .now)
+pub qik-chain-dilate1-settled-second : SettlesBytes 5 qik-chain-dilate1-kinds.ps
+    qik-chain-dilate1-kinds.r qik-chain-dilate1.Learnt (λ κs e. e .1 .1 .1 .1 .1 .1 .1 .0 .now)
 qik-chain-dilate1-settled-second κs a x y s t p q = settled (p .1 .1) (q .1 .1)
 
-pub qik-chain-dilate8-settled : Settles 5 qik-chain-dilate8-kinds.ps qik-chain-dilate8-kinds.r qik-chain-dilate8.Learnt
+pub qik-chain-dilate8-settled : Settles 5 qik-chain-dilate8-kinds.ps
+    qik-chain-dilate8-kinds.r qik-chain-dilate8.Learnt
 qik-chain-dilate8-settled κs a x y s t p q = settled (p .0) (q .0)
 
-pub qik-chain-dilate8-settled-first : SettlesBytes 5 qik-chain-dilate8-kinds.ps qik-chain-dilate8-kinds.r qik-chain-dilate8.Learnt (λ κs e. e .1 .1 .1 .1 .1 .1 .0 .now)
+pub qik-chain-dilate8-settled-first : SettlesBytes 5 qik-chain-dilate8-kinds.ps
+    qik-chain-dilate8-kinds.r qik-chain-dilate8.Learnt (λ κs e. e .1 .1 .1 .1 .1 .1 .0 .now)
 qik-chain-dilate8-settled-first κs a x y s t p q = settled (p .1 .0) (q .1 .0)
 
-pub qik-chain-dilate8-settled-second : SettlesBytes 5 qik-chain-dilate8-kinds.ps qik-chain-dilate8-kinds.r qik-chain-dilate8.Learnt (λ κs e. e .1 .1 .1 .1 .1 .1 .1 .0 .now)
+pub qik-chain-dilate8-settled-second : SettlesBytes 5 qik-chain-dilate8-kinds.ps
+    qik-chain-dilate8-kinds.r qik-chain-dilate8.Learnt (λ κs e. e .1 .1 .1 .1 .1 .1 .1 .0 .now)
 qik-chain-dilate8-settled-second κs a x y s t p q = settled (p .1 .1) (q .1 .1)
 
-pub qik-weighted-erode-settled : Settles 3 qik-weighted-erode-kinds.ps qik-weighted-erode-kinds.r qik-weighted-erode.Learnt
+pub qik-weighted-erode-settled : Settles 3 qik-weighted-erode-kinds.ps
+    qik-weighted-erode-kinds.r qik-weighted-erode.Learnt
 qik-weighted-erode-settled κs a x y s t p q = settled (p .0) (q .0)
 
-pub qik-weighted-erode-settled-target : SettlesBytes 3 qik-weighted-erode-kinds.ps qik-weighted-erode-kinds.r qik-weighted-erode.Learnt (λ κs e. e .1 .1 .1 .1 .0 .now)
+pub qik-weighted-erode-settled-target : SettlesBytes 3 qik-weighted-erode-kinds.ps
+    qik-weighted-erode-kinds.r qik-weighted-erode.Learnt (λ κs e. e .1 .1 .1 .1 .0 .now)
 qik-weighted-erode-settled-target κs a x y s t p q = settled (p .1) (q .1)
 
-pub qik-weighted-dilate-settled : Settles 3 qik-weighted-dilate-kinds.ps qik-weighted-dilate-kinds.r qik-weighted-dilate.Learnt
+pub qik-weighted-dilate-settled : Settles 3 qik-weighted-dilate-kinds.ps
+    qik-weighted-dilate-kinds.r qik-weighted-dilate.Learnt
 qik-weighted-dilate-settled κs a x y s t p q = settled (p .0) (q .0)
 
-pub qik-weighted-dilate-settled-target : SettlesBytes 3 qik-weighted-dilate-kinds.ps qik-weighted-dilate-kinds.r qik-weighted-dilate.Learnt (λ κs e. e .1 .1 .1 .1 .0 .now)
+pub qik-weighted-dilate-settled-target : SettlesBytes 3 qik-weighted-dilate-kinds.ps
+    qik-weighted-dilate-kinds.r qik-weighted-dilate.Learnt (λ κs e. e .1 .1 .1 .1 .0 .now)
 qik-weighted-dilate-settled-target κs a x y s t p q = settled (p .1) (q .1)
 
-pub qik-weighted-open-settled : Settles 4 qik-weighted-open-kinds.ps qik-weighted-open-kinds.r qik-weighted-open.Learnt
+pub qik-weighted-open-settled : Settles 4 qik-weighted-open-kinds.ps
+    qik-weighted-open-kinds.r qik-weighted-open.Learnt
 qik-weighted-open-settled κs a x y s t p q = settled (p .0) (q .0)
 
-pub qik-weighted-open-settled-target : SettlesBytes 4 qik-weighted-open-kinds.ps qik-weighted-open-kinds.r qik-weighted-open.Learnt (λ κs e. e .1 .1 .1 .1 .0 .now)
+pub qik-weighted-open-settled-target : SettlesBytes 4 qik-weighted-open-kinds.ps
+    qik-weighted-open-kinds.r qik-weighted-open.Learnt (λ κs e. e .1 .1 .1 .1 .0 .now)
 qik-weighted-open-settled-target κs a x y s t p q = settled (p .1 .0) (q .1 .0)
 
-pub qik-weighted-open-settled-scratch : SettlesBytes 4 qik-weighted-open-kinds.ps qik-weighted-open-kinds.r qik-weighted-open.Learnt (λ κs e. e .1 .1 .1 .1 .1 .0 .now)
+pub qik-weighted-open-settled-scratch : SettlesBytes 4 qik-weighted-open-kinds.ps
+    qik-weighted-open-kinds.r qik-weighted-open.Learnt (λ κs e. e .1 .1 .1 .1 .1 .0 .now)
 qik-weighted-open-settled-scratch κs a x y s t p q = settled (p .1 .1) (q .1 .1)
 
-pub qik-weighted-close-settled : Settles 4 qik-weighted-close-kinds.ps qik-weighted-close-kinds.r qik-weighted-close.Learnt
+pub qik-weighted-close-settled : Settles 4 qik-weighted-close-kinds.ps
+    qik-weighted-close-kinds.r qik-weighted-close.Learnt
 qik-weighted-close-settled κs a x y s t p q = settled (p .0) (q .0)
 
-pub qik-weighted-close-settled-target : SettlesBytes 4 qik-weighted-close-kinds.ps qik-weighted-close-kinds.r qik-weighted-close.Learnt (λ κs e. e .1 .1 .1 .1 .0 .now)
+pub qik-weighted-close-settled-target : SettlesBytes 4 qik-weighted-close-kinds.ps
+    qik-weighted-close-kinds.r qik-weighted-close.Learnt (λ κs e. e .1 .1 .1 .1 .0 .now)
 qik-weighted-close-settled-target κs a x y s t p q = settled (p .1 .0) (q .1 .0)
 
-pub qik-weighted-close-settled-scratch : SettlesBytes 4 qik-weighted-close-kinds.ps qik-weighted-close-kinds.r qik-weighted-close.Learnt (λ κs e. e .1 .1 .1 .1 .1 .0 .now)
+pub qik-weighted-close-settled-scratch : SettlesBytes 4 qik-weighted-close-kinds.ps
+    qik-weighted-close-kinds.r qik-weighted-close.Learnt (λ κs e. e .1 .1 .1 .1 .1 .0 .now)
 qik-weighted-close-settled-scratch κs a x y s t p q = settled (p .1 .1) (q .1 .1)

@@ -6,10 +6,11 @@ use lib.ListN.{length}
 use Rattle.answer.specs.Answer.{isDone}
 use Rattle.answer.specs.Packed.{packed}
 use Rattle.ech.specs.File.{kindOf, pingsOf, binsOf}
-use Rattle.ech.specs.Calls.{readAnswer}
+use Rattle.ech.specs.ReadWrite.{readAnswer}
 
 -- number + 256·kind + 65536·W + 4294967296·H; a refused read gives 0 for kind, W and H
 unfoldable pub readNumber : List ℕ → List ℕ → ℕ
 readNumber f t =
     let done = isDone (readAnswer f (length t)) in
-    packed (readAnswer f (length t)) + cond done (kindOf f) 0 * 2 ^ 8 + cond done (pingsOf f) 0 * 2 ^ 16 + cond done (binsOf f) 0 * 4294967296
+    packed (readAnswer f (length t)) + cond done (kindOf f) 0 * 2 ^ 8
+    + cond done (pingsOf f) 0 * 2 ^ 16 + cond done (binsOf f) 0 * 4294967296

@@ -1,8 +1,3 @@
-pub mod Refusals
-pub mod Pictures
-pub mod Operations
-pub mod Lines
-pub mod Works
-pub mod Outcomes
-pub mod Settled
+pub mod Jobs
 pub mod Room
+pub mod Settled

@@ -17,14 +17,16 @@ use Rattle.picture.specs.Bytes.{paddingClear}
 use Rattle.picture.proofs.Sizes.{sized-tells}
 use Rattle.element.specs.Descriptor.{wellMade, descriptorLength}
 use Rattle.ech.specs.File.{headBytes, depthOf, kindOf, pingsOf, binsOf, bodyOf, formed}
-use Rattle.ech.proofs.Judging.{formed-long}
+use Rattle.ech.proofs.Judging.{formed-tells}
 use Rattle.text.specs.Text.{mostLine, mostText}
 use Rattle.text.proofs.Longest.{most-few}
-use Rattle.job.specs.Parts.{mostJob, letterOf, flagOf, restOf, knownLetter, knownFlag, fileBy, fileIn, elementIn}
-use Rattle.job.specs.Work.{shortest, jobAnswer}
+use Rattle.work.specs.Work.{shortest}
+use Rattle.job.specs.Job.{mostJob, letterOf, flagOf, restOf, knownLetter}
+use Rattle.job.specs.Job.{knownFlag, fileBy, fileIn, elementIn, jobAnswer}
 
 -- a test of another number that gives 8 does not hold, and the next decides
-other : (b : Bool) (n : ℕ) (after : Told) → (n ≡ 8 → ⊥) → cond b (plain n) after ≡ plain 8 → (b ≡ false) × (after ≡ plain 8)
+other : (b : Bool) (n : ℕ) (after : Told) → (n ≡ 8 → ⊥) → cond b (plain n) after ≡ plain 8
+    → (b ≡ false) × (after ≡ plain 8)
 unfolding plain
 other true n after ne e = absurd (ne (ap (λ (t : Told). t .number) e))
 other false n after ne e = (refl, e)
@@ -43,12 +45,15 @@ file-short flag rest = by (eqb flag 0)
     by false = omega (arith, length-drop (descriptorLength rest) rest)
 
 -- lines by the picture's bytes
-lines-short : (depth : Depth) (w h : ℕ) → h ≤ mostBins → h * mostLine depth w ≤ 8 * pictureBytes depth w h + mostBins
-lines-short OneBit w h l = omega (arith, mul-le-mul {n₁ = h} {m₁ = w} {n₂ = h} {m₂ = 8 * ((w + 7) / 8)} (omega arith) (omega arith))
+lines-short : (depth : Depth) (w h : ℕ) → h ≤ mostBins
+    → h * mostLine depth w ≤ 8 * pictureBytes depth w h + mostBins
+lines-short OneBit w h l =
+    omega (arith, mul-le-mul {n₁ = h} {m₁ = w} {n₂ = h} {m₂ = 8 * ((w + 7) / 8)} (omega arith) (omega arith))
 lines-short EightBit w h l = omega arith
 
 module _ (job p r m t : List ℕ) where
-  pub never-room : mostJob ≤ length p → mostJob ≤ length r → mostJob ≤ length m → 262400 ≤ length t → jobAnswer job p r m t ≡ plain 8 → ⊥
+  pub never-room : mostJob ≤ length p → mostJob ≤ length r → mostJob ≤ length m
+      → 262400 ≤ length t → jobAnswer job p r m t ≡ plain 8 → ⊥
   unfolding jobAnswer
   never-room lp lr lm lt e =
       let e1 = other (ltb (length job) 2) 10 _ (λ q. omega arith) e in
@@ -57,23 +62,46 @@ module _ (job p r m t : List ℕ) where
       let e4 = other (not (knownFlag (flagOf job))) 10 _ (λ q. omega arith) (e3 .1) in
       let e5 = other (not (wellMade (elementIn job))) 4 _ (λ q. omega arith) (e4 .1) in
       let e6 = other (not (formed (fileIn job))) 9 _ (λ q. omega arith) (e5 .1) in
-      let e7 = other (not (sizedFrame (pingsOf (fileIn job)) (binsOf (fileIn job)))) 1 _ (λ q. omega arith) (e6 .1) in
+      let e7 = other (not (sizedFrame (pingsOf (fileIn job)) (binsOf (fileIn job))))
+      1 _ (λ q. omega arith) (e6 .1) in
       let e8 = other (not (eqb (length (bodyOf (fileIn job))) n)) 2 _ (λ q. omega arith) (e7 .1) in
-      let e9 = other (not (paddingClear (depthOf (kindOf (fileIn job))) (bodyOf (fileIn job)) (pingsOf (fileIn job)) (binsOf (fileIn job)))) 3 _ (λ q. omega arith) (e8 .1) in
-      last (body (ltb-false _ _ (e1 .0)) (ltb-false _ _ (e2 .0)) (not-false _ (e6 .0)) (eqb-true _ _ (not-false _ (e8 .0)))) (sized-tells _ _ (not-false _ (e7 .0)) .few-bins) (e9 .1)
+      let e9 = other (not (paddingClear (depthOf (kindOf (fileIn job))) (bodyOf (fileIn job))
+      (pingsOf (fileIn job)) (binsOf (fileIn job)))) 3 _ (λ q. omega arith) (e8 .1) in
+      last (body (ltb-false _ _ (e1 .0)) (ltb-false _ _ (e2 .0)) (not-false _ (e6 .0))
+      (eqb-true _ _ (not-false _ (e8 .0)))) (sized-tells _ _ (not-false _ (e7 .0)) .few-bins) (e9 .1)
     where
       n : ℕ
       n = pictureBytes (depthOf (kindOf (fileIn job))) (pingsOf (fileIn job)) (binsOf (fileIn job))
 
       long : ℕ
-      long = mostText (depthOf (kindOf (fileIn job))) (pingsOf (fileIn job)) (binsOf (fileIn job)) (kindOf (fileIn job))
+      long =
+          mostText (depthOf (kindOf (fileIn job))) (pingsOf (fileIn job))
+          (binsOf (fileIn job)) (kindOf (fileIn job))
 
-      body : 2 ≤ length job → length job ≤ mostJob → formed (fileIn job) ≡ true → length (bodyOf (fileIn job)) ≡ n → n ≤ 32756
+      body : 2 ≤ length job → length job ≤ mostJob → formed (fileIn job) ≡ true
+          → length (bodyOf (fileIn job)) ≡ n → n ≤ 32756
       body l2 lj lf ln =
-          omega (arith, ln, length-drop headBytes (fileIn job), formed-long (fileIn job) lf, file-short (flagOf job) (restOf job), length-drop 2 job)
+          omega (
+            arith,
+            ln,
+            length-drop headBytes (fileIn job),
+            formed-tells (fileIn job) lf .long,
+            file-short (flagOf job) (restOf job),
+            length-drop 2 job,
+          )
 
-      last : n ≤ 32756 → binsOf (fileIn job) ≤ mostBins → cond (ltb (shortest p r m) (0 + n)) (plain 8) (cond (ltb (length t) long) (plain 8) (plain 0)) ≡ plain 8 → ⊥
+      last : n ≤ 32756 → binsOf (fileIn job) ≤ mostBins
+          → cond (ltb (shortest p r m) (0 + n)) (plain 8) (cond (ltb (length t) long) (plain 8) (plain 0))
+          ≡ plain 8
+          → ⊥
       last few high q =
           nothing-more
-          (sym (ap (λ b. cond b (plain 8) (plain 0)) (le-ltb (length t) long (omega (arith, most-few (depthOf (kindOf (fileIn job))) (pingsOf (fileIn job)) (binsOf (fileIn job)) (kindOf (fileIn job)), lines-short (depthOf (kindOf (fileIn job))) (pingsOf (fileIn job)) (binsOf (fileIn job)) high))))
-          ∙ sym (ap (λ b. cond b (plain 8) (cond (ltb (length t) long) (plain 8) (plain 0))) (le-ltb (shortest p r m) (0 + n) (omega arith))) ∙ q)
+          (sym (ap (λ b. cond b (plain 8) (plain 0)) (le-ltb (length t) long (omega (
+            arith,
+            most-few (depthOf (kindOf (fileIn job))) (pingsOf (fileIn job))
+                (binsOf (fileIn job)) (kindOf (fileIn job)),
+            lines-short (depthOf (kindOf (fileIn job))) (pingsOf (fileIn job)) (binsOf (fileIn job)) high,
+          ))))
+          ∙ sym (ap (λ b. cond b (plain 8) (cond (ltb (length t) long) (plain 8) (plain 0)))
+          (le-ltb (shortest p r m) (0 + n) (omega arith)))
+          ∙ q)

@@ -1,3 +1,2 @@
-pub mod Parts
-pub mod Work
-pub mod Prints
+pub mod Job
+pub mod Steps

@@ -1,4 +1,5 @@
--- The offsets of Chain.antt and the places that stand for them: steps are cells, walks are choices, and so on to faults and differences.
+-- The offsets of Chain.antt and the places that stand for them:
+-- steps are cells, walks are choices, and so on to faults and differences.
 use Prim.Native.Nat.{ℕ, suc, _+_, _-_, _*_, _≤_, min, max}
 use mathlib.Core.Path.{_≡_, refl, sym, ap, _∙_, subst}
 use mathlib.Core.Logic.{_⊎_, inl, inr, ⊎-elim}
@@ -7,13 +8,17 @@ use native.Mathlib.Omega.{arith}
 use lib.Dec.{leb, leb→le, nleb→lt, not-T}
 use lib.IntN.{ℤ, pos, negsuc, subℕ, +ℤ-idl}
 use lib.ListN.{length}
+use Rattle.answer.specs.Answer.{centre}
 use Rattle.element.specs.Shape.{Shape, Offset}
 use Rattle.morphology.specs.Step.{Place, Cell, cellOffset, Has, Step}
-use Rattle.morphology.specs.Chain.{origin, plus, Choice, sumFrom, EachSumFrom, Sum, Amid, Between, PathTo, Fault, missed, extra, Before, Fits, AllFit, Chained}
+use Rattle.morphology.specs.Chain.{origin, plus, Choice, sumFrom, EachSumFrom, Sum, Amid, Between}
+use Rattle.morphology.specs.Chain.{PathTo, Fault, missed, extra, Before, Fits, AllFit, Chained}
 use Rattle.morphology.specs.Check.{value, still}
-use Rattle.morphology.proofs.Truth.{decided}
-use Rattle.morphology.proofs.Places.{same-place, Walk, HasAt, SumAt, BetweenAt, PathAt, FaultAt, missed-at, extra-at, BeforeAt}
-use Rattle.morphology.proofs.Integers.{sub-eq, sub-same, sub-add, sub-le, le-sub, sub-lt, lt-sub, pos-is, negsuc-is}
+use Rattle.basics.proofs.Truth.{decided}
+use Rattle.morphology.proofs.Places.{same-place, Walk, HasAt, SumAt, BetweenAt}
+use Rattle.morphology.proofs.Places.{PathAt, FaultAt, missed-at, extra-at, BeforeAt}
+use Rattle.morphology.proofs.Integers.{sub-eq, sub-same, sub-add, sub-le}
+use Rattle.morphology.proofs.Integers.{le-sub, sub-lt, lt-sub, pos-is, negsuc-is}
 
 -- ---- offsets and places
 same-offset : {s t : Offset} → s .dx ≡ t .dx → s .dy ≡ t .dy → s ≡ t
@@ -27,8 +32,8 @@ dy-of e = ap (λ z. z .dy) e
 
 pub value-same : (d e : Place) → value d ≡ value e → (d .x ≡ e .x) × (d .y ≡ e .y)
 value-same d e h =
-    let a = sub-same (d .x) 128 (e .x) 128 (dx-of h) in
-    let b = sub-same (d .y) 128 (e .y) 128 (dy-of h) in
+    let a = sub-same (d .x) centre (e .x) centre (dx-of h) in
+    let b = sub-same (d .y) centre (e .y) centre (dy-of h) in
     (omega arith, omega arith)
 
 -- the offset (0, 0) is the middle of the board
@@ -36,16 +41,19 @@ middle : origin ≡ value still
 middle = refl
 
 -- which integers are the coordinate of a place, and which offsets are that of a place
-coordinate : (z : ℤ) → ((n : ℕ) × (subℕ n 128 ≡ z)) ⊎ ((n : ℕ) → subℕ n 128 ≡ z → ⊥)
-coordinate (pos k) = inl (k + 128, sub-eq (k + 128) 128 k 0 (omega arith) ∙ sym (pos-is k))
+coordinate : (z : ℤ) → ((n : ℕ) × (subℕ n centre ≡ z)) ⊎ ((n : ℕ) → subℕ n centre ≡ z → ⊥)
+coordinate (pos k) = inl (k + centre, sub-eq (k + centre) centre k 0 (omega arith) ∙ sym (pos-is k))
 coordinate (negsuc k) =
-    ⊎-elim (λ t. let h = leb→le k 127 t in inl (127 - k, sub-eq (127 - k) 128 0 (suc k) (omega arith) ∙ sym (negsuc-is k)))
-    (λ t. let h = nleb→lt k 127 (not-T (leb k 127) t) in inr (λ n e. let j = sub-same n 128 0 (suc k) (e ∙ negsuc-is k) in omega arith))
-    (decided (leb k 127))
+    ⊎-elim (λ t. let h = leb→le (suc k) centre t in
+    inl (centre - suc k, sub-eq (centre - suc k) centre 0 (suc k) (omega arith) ∙ sym (negsuc-is k)))
+    (λ t. let h = nleb→lt (suc k) centre (not-T (leb (suc k) centre) t) in
+    inr (λ n e. let j = sub-same n centre 0 (suc k) (e ∙ negsuc-is k) in omega arith))
+    (decided (leb (suc k) centre))
 
 pub placed : (o : Offset) → ((e : Place) × (value e ≡ o)) ⊎ ((e : Place) → value e ≡ o → ⊥)
 placed o =
-    ⊎-elim (λ a. ⊎-elim (λ b. inl (record { x = a .0; y = b .0 }, same-offset (a .1) (b .1))) (λ n. inr (λ e h. n (e .y) (dy-of h))) (coordinate (o .dy)))
+    ⊎-elim (λ a. ⊎-elim (λ b. inl (record { x = a .0; y = b .0 }, same-offset (a .1) (b .1)))
+    (λ n. inr (λ e h. n (e .y) (dy-of h))) (coordinate (o .dy)))
     (λ n. inr (λ e h. n (e .x) (dx-of h))) (coordinate (o .dx))
 
 nil-plus : (s : Offset) → plus origin s ≡ s
@@ -56,13 +64,17 @@ nil-plus s = same-offset (+ℤ-idl (s .dx)) (+ℤ-idl (s .dy))
 step-adds : (B : Shape) (p q : Place) (s : Step B p q) → plus (value p) (cellOffset B (s .cell)) ≡ value q
 step-adds B p q s =
     same-offset
-    (sub-add (p .x) 128 (s .cell .column) (B .origin-column) ∙ sub-eq (p .x + s .cell .column) (128 + B .origin-column) (q .x) 128 (omega arith))
-    (sub-add (p .y) 128 (s .cell .row) (B .origin-row) ∙ sub-eq (p .y + s .cell .row) (128 + B .origin-row) (q .y) 128 (omega arith))
+    (sub-add (p .x) centre (s .cell .column) (B .origin-column)
+    ∙ sub-eq (p .x + s .cell .column) (centre + B .origin-column) (q .x) centre (omega arith))
+    (sub-add (p .y) centre (s .cell .row) (B .origin-row)
+    ∙ sub-eq (p .y + s .cell .row) (centre + B .origin-row) (q .y) centre (omega arith))
 
 adds-step : (B : Shape) (p q : Place) (b : Cell B) → plus (value p) (cellOffset B b) ≡ value q → Step B p q
 adds-step B p q b h =
-    let ex = sub-same (p .x + b .column) (128 + B .origin-column) (q .x) 128 (sym (sub-add (p .x) 128 (b .column) (B .origin-column)) ∙ dx-of h) in
-    let ey = sub-same (p .y + b .row) (128 + B .origin-row) (q .y) 128 (sym (sub-add (p .y) 128 (b .row) (B .origin-row)) ∙ dy-of h) in
+    let ex = sub-same (p .x + b .column) (centre + B .origin-column)
+    (q .x) centre (sym (sub-add (p .x) centre (b .column) (B .origin-column)) ∙ dx-of h) in
+    let ey = sub-same (p .y + b .row) (centre + B .origin-row)
+    (q .y) centre (sym (sub-add (p .y) centre (b .row) (B .origin-row)) ∙ dy-of h) in
     record {
       cell = b;
       across = omega arith;
@@ -70,7 +82,8 @@ adds-step B p q b h =
     }
 
 -- with room before it, a place can be moved by any cell
-cell-step : (B : Shape) (p : Place) (b : Cell B) → B .origin-column ≤ p .x → B .origin-row ≤ p .y → (q : Place) × Step B p q × (plus (value p) (cellOffset B b) ≡ value q)
+cell-step : (B : Shape) (p : Place) (b : Cell B) → B .origin-column ≤ p .x → B .origin-row ≤ p .y
+    → (q : Place) × Step B p q × (plus (value p) (cellOffset B b) ≡ value q)
 cell-step B p b hx hy =
     let q : Place = record { x = p .x + b .column - B .origin-column; y = p .y + b .row - B .origin-row } in
     let s : Step B p q = record {
@@ -82,7 +95,8 @@ cell-step B p b hx hy =
 
 -- ---- a walk is a choice
 
-walk-choice : (P : Place → Type 0) (R : Offset → Type 0) → ((m : Place) → P m → R (value m)) → (Bs : List Shape) (p q : Place) → R (value p) → Walk P Bs p q
+walk-choice : (P : Place → Type 0) (R : Offset → Type 0) → ((m : Place) → P m → R (value m))
+    → (Bs : List Shape) (p q : Place) → R (value p) → Walk P Bs p q
     → (k : Choice Bs) × (sumFrom Bs (value p) k ≡ value q) × EachSumFrom R Bs (value p) k
 walk-choice P R f [] p q r w = (tt, ap value (same-place {p = p} {q = q} (w .0) (w .1)), r)
 walk-choice P R f (B ∷ Bs) p q r w =
@@ -101,14 +115,16 @@ record Room (n : ℕ) (p : Place) : Type 0 where
 room-step : (n : ℕ) {B : Shape} {p q : Place} → Fits 8 B → Room (suc n) p → Step B p q → Room n q
 room-step n f r s = record { left = omega arith; upper = omega arith }
 
-room-for : (n : ℕ) {B : Shape} {p : Place} → Fits 8 B → Room (suc n) p → (B .origin-column ≤ p .x) × (B .origin-row ≤ p .y)
+room-for : (n : ℕ) {B : Shape} {p : Place} → Fits 8 B → Room (suc n) p
+    → (B .origin-column ≤ p .x) × (B .origin-row ≤ p .y)
 room-for n f r = (omega arith, omega arith)
 
 first-sum : (R : Offset → Type 0) (Bs : List Shape) (s : Offset) (k : Choice Bs) → EachSumFrom R Bs s k → R s
 first-sum R [] s k h = h
 first-sum R (B ∷ Bs) s k h = h .0
 
-choice-walk : (P : Place → Type 0) (R : Offset → Type 0) → ((m : Place) → R (value m) → P m) → (Bs : List Shape) (p q : Place) → AllFit 8 Bs → Room (length Bs) p
+choice-walk : (P : Place → Type 0) (R : Offset → Type 0) → ((m : Place) → R (value m) → P m)
+    → (Bs : List Shape) (p q : Place) → AllFit 8 Bs → Room (length Bs) p
     → (k : Choice Bs) → sumFrom Bs (value p) k ≡ value q → EachSumFrom R Bs (value p) k → Walk P Bs p q
 choice-walk P R f [] p q fit room k e h = value-same p q e
 choice-walk P R f (B ∷ Bs) p q fit room k e h =
@@ -118,11 +134,13 @@ choice-walk P R f (B ∷ Bs) p q fit room k e h =
       m .0,
       m .1,
       f (m .0) (first-sum R Bs (value (m .0)) (k .1) rest),
-      choice-walk P R f Bs (m .0) q (fit .1) (room-step (length Bs) (fit .0) room (m .1)) (k .1) (subst (λ (z : Offset). sumFrom Bs z (k .1) ≡ value q) (m .2) e) rest,
+      choice-walk P R f Bs (m .0) q (fit .1) (room-step (length Bs) (fit .0) room (m .1))
+          (k .1) (subst (λ (z : Offset). sumFrom Bs z (k .1) ≡ value q) (m .2) e) rest,
     )
 
 -- every sum is the offset of a place
-choice-ends : (Bs : List Shape) (p : Place) → AllFit 8 Bs → Room (length Bs) p → (k : Choice Bs) → (q : Place) × (sumFrom Bs (value p) k ≡ value q)
+choice-ends : (Bs : List Shape) (p : Place) → AllFit 8 Bs → Room (length Bs) p → (k : Choice Bs)
+    → (q : Place) × (sumFrom Bs (value p) k ≡ value q)
 choice-ends [] p fit room k = (p, refl)
 choice-ends (B ∷ Bs) p fit room k =
     let g = room-for (length Bs) (fit .0) room in
@@ -136,16 +154,20 @@ any-sums (B ∷ Bs) s k = (tt, any-sums Bs _ (k .1))
 
 -- ---- between
 
-amid-to : (e s : ℕ) → min 128 e ≤ s → s ≤ max 128 e → Amid (subℕ e 128) (subℕ s 128)
+amid-to : (e s : ℕ) → min centre e ≤ s → s ≤ max centre e → Amid (subℕ e centre) (subℕ s centre)
 amid-to e s l r =
-    ⊎-elim (λ t. let h = leb→le 128 e t in inl (le-sub 128 128 s 128 (omega arith), le-sub s 128 e 128 (omega arith)))
-    (λ t. let h = nleb→lt 128 e (not-T (leb 128 e) t) in inr (le-sub e 128 s 128 (omega arith), le-sub s 128 128 128 (omega arith)))
-    (decided (leb 128 e))
+    ⊎-elim (λ t. let h = leb→le centre e t in
+    inl (le-sub centre centre s centre (omega arith), le-sub s centre e centre (omega arith)))
+    (λ t. let h = nleb→lt centre e (not-T (leb centre e) t) in
+    inr (le-sub e centre s centre (omega arith), le-sub s centre centre centre (omega arith)))
+    (decided (leb centre e))
 
-amid-from : (e s : ℕ) → Amid (subℕ e 128) (subℕ s 128) → (min 128 e ≤ s) × (s ≤ max 128 e)
+amid-from : (e s : ℕ) → Amid (subℕ e centre) (subℕ s centre) → (min centre e ≤ s) × (s ≤ max centre e)
 amid-from e s h =
-    ⊎-elim (λ k. let a = sub-le 128 128 s 128 (k .0) in let b = sub-le s 128 e 128 (k .1) in (omega arith, omega arith))
-    (λ k. let a = sub-le e 128 s 128 (k .0) in let b = sub-le s 128 128 128 (k .1) in (omega arith, omega arith)) h
+    ⊎-elim (λ k. let a = sub-le centre centre s centre (k .0) in
+    let b = sub-le s centre e centre (k .1) in (omega arith, omega arith))
+    (λ k. let a = sub-le e centre s centre (k .0) in
+    let b = sub-le s centre centre centre (k .1) in (omega arith, omega arith)) h
 
 between-to : (e s : Place) → BetweenAt e s → Between (value e) (value s)
 between-to e s b = (amid-to (e .x) (s .x) (b .left) (b .right), amid-to (e .y) (s .y) (b .upper) (b .lower))
@@ -160,13 +182,14 @@ between-from e s b =
 
 pub before-to : (d e : Place) → BeforeAt d e → Before (value d) (value e)
 before-to d e b =
-    ⊎-elim (λ l. inl (lt-sub (d .y) 128 (e .y) 128 (omega arith)))
-    (λ k. inr (ap (λ n. subℕ n 128) (k .0), lt-sub (d .x) 128 (e .x) 128 (omega arith))) b
+    ⊎-elim (λ l. inl (lt-sub (d .y) centre (e .y) centre (omega arith)))
+    (λ k. inr (ap (λ n. subℕ n centre) (k .0), lt-sub (d .x) centre (e .x) centre (omega arith))) b
 
 pub before-from : (d e : Place) → Before (value d) (value e) → BeforeAt d e
 before-from d e b =
-    ⊎-elim (λ l. let h = sub-lt (d .y) 128 (e .y) 128 l in inl (omega arith))
-    (λ k. let h = sub-same (d .y) 128 (e .y) 128 (k .0) in let j = sub-lt (d .x) 128 (e .x) 128 (k .1) in inr (omega arith, omega arith)) b
+    ⊎-elim (λ l. let h = sub-lt (d .y) centre (e .y) centre l in inl (omega arith))
+    (λ k. let h = sub-same (d .y) centre (e .y) centre (k .0) in
+    let j = sub-lt (d .x) centre (e .x) centre (k .1) in inr (omega arith, omega arith)) b
 
 -- ---- sums, paths, faults
 
@@ -184,15 +207,20 @@ module _ (E : Shape) (Bs : List Shape) (C : Chained E Bs) where
   sum-to e w = let h = walk-choice (λ m. Unit {0}) (λ o. Unit {0}) (λ m u. tt) Bs still e tt w in (h .0, h .1)
 
   sum-from : (e : Place) → Sum Bs (value e) → SumAt Bs e
-  sum-from e h = choice-walk (λ m. Unit {0}) (λ o. Unit {0}) (λ m u. tt) Bs still e (C .links) room (h .0) (h .1) (any-sums Bs origin (h .0))
+  sum-from e h =
+      choice-walk (λ m. Unit {0}) (λ o. Unit {0})
+      (λ m u. tt) Bs still e (C .links) room (h .0) (h .1) (any-sums Bs origin (h .0))
 
   path-to : (e : Place) → PathAt Bs e → PathTo Bs (value e)
   path-to e w =
       walk-choice (BetweenAt e) (Between (value e)) (between-to e) Bs still e
-      (between-to e still (record { left = omega arith; right = omega arith; upper = omega arith; lower = omega arith })) w
+      (between-to e still
+      (record { left = omega arith; right = omega arith; upper = omega arith; lower = omega arith })) w
 
   path-from : (e : Place) → PathTo Bs (value e) → PathAt Bs e
-  path-from e h = choice-walk (BetweenAt e) (Between (value e)) (between-from e) Bs still e (C .links) room (h .0) (h .1) (h .2)
+  path-from e h =
+      choice-walk (BetweenAt e) (Between (value e))
+      (between-from e) Bs still e (C .links) room (h .0) (h .1) (h .2)
 
   pub fault-to : (e : Place) → FaultAt E Bs e → Fault E Bs (value e)
   fault-to e (missed-at h np) = missed (has-to e h) (λ p. np (path-from e p))
@@ -208,4 +236,5 @@ module _ (E : Shape) (Bs : List Shape) (C : Chained E Bs) where
       let f = C .element in
       let m = cell-step E still (h .0) (omega arith) (omega arith) in
       (m .0, sym (m .2) ∙ (nil-plus (cellOffset E (h .0)) ∙ h .1))
-  fault-place o (extra nh s) = let h = choice-ends Bs still (C .links) room (s .0) in (h .0, sym (h .1) ∙ s .1)
+  fault-place o (extra nh s) = let h = choice-ends Bs still (C .links) room (s .0) in
+      (h .0, sym (h .1) ∙ s .1)

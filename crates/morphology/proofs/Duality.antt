@@ -23,12 +23,19 @@ module _ (B : Shape) (column : B .origin-column < B .wide) (row : B .origin-row 
   turn-back p q s =
       let k = s .cell in
       record {
-        cell = record { column = B .wide - 1 - k .column; row = B .high - 1 - k .row; in-width = omega arith; in-height = omega arith; set = k .set };
+        cell = record {
+          column = B .wide - 1 - k .column;
+          row = B .high - 1 - k .row;
+          in-width = omega arith;
+          in-height = omega arith;
+          set = k .set;
+        };
         across = omega arith;
         down = omega arith;
       }
 
-  turn : (p q : Place) (s : Step B p q) → (t : Step (turnedElement B) q p) × (heightAt (turnedElement B) t ≡ heightAt B s)
+  turn : (p q : Place) (s : Step B p q)
+      → (t : Step (turnedElement B) q p) × (heightAt (turnedElement B) t ≡ heightAt B s)
   unfolding turnedElement
   turn p q s =
       let k = s .cell in
@@ -49,20 +56,26 @@ module _ (B : Shape) (column : B .origin-column < B .wide) (row : B .origin-row 
       )
 
   -- the erosion of the complement is the complement of the dilation by the turned element
-  pub erode-complement : (lower raise : Change) (top : ℕ) → Mirrored top lower raise → Holding top raise → (F : Frame) (A : Picture) → Bounded top F A → (p : Place)
-      → erodeBy lower top F B (complement top A) (p .x) (p .y) ≡ top - dilateBy raise F (turnedElement B) A (p .x) (p .y)
+  pub erode-complement : (lower raise : Change) (top : ℕ) → Mirrored top lower raise
+      → Holding top raise → (F : Frame) (A : Picture) → Bounded top F A → (p : Place)
+      → erodeBy lower top F B (complement top A) (p .x) (p .y)
+      ≡ top - dilateBy raise F (turnedElement B) A (p .x) (p .y)
   unfolding turnedElement turn-back
   erode-complement lower raise top mirrored holds F A b p =
       le-antisymm
-      (less _ _ (erode-top lower top F B (complement top A) p) (dilation raise F (turnedElement B) A p _ .1 (λ q i s.
+      (less _ _ (erode-top lower top F B (complement top A) p)
+      (dilation raise F (turnedElement B) A p _ .1 (λ q i s.
       let t = turn-back p q s in
-      let k = rw (mirrored (heightAt B t) (A (q .x) (q .y)) (b q i)) at (erode-le lower top F B (complement top A) p q i t) in
+      let k = rw (mirrored (heightAt B t) (A (q .x) (q .y)) (b q i))
+      at (erode-le lower top F B (complement top A) p q i t) in
       less′ _ _ (holds (heightAt B t) _ (b q i)) k)))
       (erosion lower top F B (complement top A) p _ .1 (
         omega arith,
         λ q i s.
             let t = turn p q s in
-            let k : raise (heightAt B s) (A (q .x) (q .y)) ≤ dilateBy raise F (turnedElement B) A (p .x) (p .y) = rw (t .1) at (le-dilate raise F (turnedElement B) A q p i (t .0)) in
+            let k : raise (heightAt B s) (A (q .x) (q .y))
+            ≤ dilateBy raise F (turnedElement B) A (p .x) (p .y) =
+            rw (t .1) at (le-dilate raise F (turnedElement B) A q p i (t .0)) in
             rw (mirrored (heightAt B s) (A (q .x) (q .y)) (b q i)) (omega arith),
       ))
     where

@@ -8,7 +8,7 @@ use native.Mathlib.Omega.{arith}
 use lib.Dec.{T, leb, ltb, leb→le, le→leb, nleb→lt, ltb→lt, nltb→le, not-T}
 use lib.IntN.{ℤ, pos, negsuc, subℕ, negℤ, _+ℤ_}
 use lib.Signed.{leZ, ltZ, _≤ℤ_, _<ℤ_, leZ-yes, ltZ-yes, ltZ-no, ≤ℤ-refl, clashℤ}
-use Rattle.morphology.proofs.Truth.{decided}
+use Rattle.basics.proofs.Truth.{decided}
 
 -- a - b is below 0 or it is not
 data Form (a b : ℕ) (z : ℤ) : Type 0 where
@@ -18,7 +18,8 @@ data Form (a b : ℕ) (z : ℤ) : Type 0 where
 form : (a b : ℕ) → Form a b (subℕ a b)
 form a b = by (ltb a b) (λ t. ltb→lt a b t) (λ t. nltb→le a b t)
   where
-    by : (t : Bool) → (T t → a < b) → (T (not t) → b ≤ a) → Form a b (cond t (negsuc (b - suc a)) (pos (a - b)))
+    by : (t : Bool) → (T t → a < b) → (T (not t) → b ≤ a)
+        → Form a b (cond t (negsuc (b - suc a)) (pos (a - b)))
     by true f g = below (f tt) refl
     by false f g = above (g tt) refl
 
@@ -36,19 +37,24 @@ module _ (a b c d : ℕ) where
   sub-le-test t = by (form a b) (form c d)
     where
       by : Form a b (subℕ a b) → Form c d (subℕ c d) → a + d ≤ c + b
-      by (below l p) (below k q) = let h = leb→le (d - suc c) (b - suc a) (subst₂ (λ (x y : ℤ). T (leZ x y)) p q t) in omega arith
+      by (below l p) (below k q) =
+          let h = leb→le (d - suc c) (b - suc a) (subst₂ (λ (x y : ℤ). T (leZ x y)) p q t) in
+          omega arith
       by (below l p) (above k q) = omega arith
       by (above l p) (below k q) = absurd (subst₂ (λ (x y : ℤ). T (leZ x y)) p q t)
-      by (above l p) (above k q) = let h = leb→le (a - b) (c - d) (subst₂ (λ (x y : ℤ). T (leZ x y)) p q t) in omega arith
+      by (above l p) (above k q) = let h = leb→le (a - b) (c - d) (subst₂ (λ (x y : ℤ). T (leZ x y)) p q t) in
+          omega arith
 
   le-sub-test : a + d ≤ c + b → T (leZ (subℕ a b) (subℕ c d))
   le-sub-test h = by (form a b) (form c d)
     where
       by : Form a b (subℕ a b) → Form c d (subℕ c d) → T (leZ (subℕ a b) (subℕ c d))
-      by (below l p) (below k q) = subst₂ (λ (x y : ℤ). T (leZ x y)) (sym p) (sym q) (le→leb (d - suc c) (b - suc a) (omega arith))
+      by (below l p) (below k q) =
+          subst₂ (λ (x y : ℤ). T (leZ x y)) (sym p) (sym q) (le→leb (d - suc c) (b - suc a) (omega arith))
       by (below l p) (above k q) = subst₂ (λ (x y : ℤ). T (leZ x y)) (sym p) (sym q) tt
       by (above l p) (below k q) = absurd (omega arith)
-      by (above l p) (above k q) = subst₂ (λ (x y : ℤ). T (leZ x y)) (sym p) (sym q) (le→leb (a - b) (c - d) (omega arith))
+      by (above l p) (above k q) =
+          subst₂ (λ (x y : ℤ). T (leZ x y)) (sym p) (sym q) (le→leb (a - b) (c - d) (omega arith))
 
   pub sub-le : subℕ a b ≤ℤ subℕ c d → a + d ≤ c + b
   sub-le h = sub-le-test (h .le)
@@ -59,11 +65,14 @@ module _ (a b c d : ℕ) where
 -- less is not at least
 pub sub-lt : (a b c d : ℕ) → subℕ a b <ℤ subℕ c d → a + d < c + b
 sub-lt a b c d h =
-    ⊎-elim (λ t. clashℤ h (le-sub c d a b (leb→le (c + b) (a + d) t))) (λ n. nleb→lt (c + b) (a + d) (not-T (leb (c + b) (a + d)) n)) (decided (leb (c + b) (a + d)))
+    ⊎-elim (λ t. clashℤ h (le-sub c d a b (leb→le (c + b) (a + d) t)))
+    (λ n. nleb→lt (c + b) (a + d) (not-T (leb (c + b) (a + d)) n)) (decided (leb (c + b) (a + d)))
 
 pub lt-sub : (a b c d : ℕ) → a + d < c + b → subℕ a b <ℤ subℕ c d
 lt-sub a b c d h =
-    ⊎-elim (λ t. ltZ-yes t) (λ n. let k = sub-le c d a b (ltZ-no (not-T (ltZ (subℕ a b) (subℕ c d)) n)) in absurd (omega arith)) (decided (ltZ (subℕ a b) (subℕ c d)))
+    ⊎-elim (λ t. ltZ-yes t)
+    (λ n. let k = sub-le c d a b (ltZ-no (not-T (ltZ (subℕ a b) (subℕ c d)) n)) in absurd (omega arith))
+    (decided (ltZ (subℕ a b) (subℕ c d)))
 
 pub sub-same : (a b c d : ℕ) → subℕ a b ≡ subℕ c d → a + d ≡ c + b
 sub-same a b c d e =
@@ -89,10 +98,12 @@ sub-add a b c d = by (form a b) (form c d)
   where
     by : Form a b (subℕ a b) → Form c d (subℕ c d) → subℕ a b +ℤ subℕ c d ≡ subℕ (a + c) (b + d)
     by (below l p) (below k q) =
-        ap₂ _+ℤ_ p q ∙ (negsuc-is (suc (b - suc a + (d - suc c))) ∙ sub-eq 0 (suc (suc (b - suc a + (d - suc c)))) (a + c) (b + d) (omega arith))
+        ap₂ _+ℤ_ p q ∙ (negsuc-is (suc (b - suc a + (d - suc c)))
+        ∙ sub-eq 0 (suc (suc (b - suc a + (d - suc c)))) (a + c) (b + d) (omega arith))
     by (below l p) (above k q) = ap₂ _+ℤ_ p q ∙ sub-eq (c - d) (suc (b - suc a)) (a + c) (b + d) (omega arith)
     by (above l p) (below k q) = ap₂ _+ℤ_ p q ∙ sub-eq (a - b) (suc (d - suc c)) (a + c) (b + d) (omega arith)
-    by (above l p) (above k q) = ap₂ _+ℤ_ p q ∙ (pos-is (a - b + (c - d)) ∙ sub-eq (a - b + (c - d)) 0 (a + c) (b + d) (omega arith))
+    by (above l p) (above k q) =
+        ap₂ _+ℤ_ p q ∙ (pos-is (a - b + (c - d)) ∙ sub-eq (a - b + (c - d)) 0 (a + c) (b + d) (omega arith))
 
 pub sub-neg : (a b : ℕ) → negℤ (subℕ a b) ≡ subℕ b a
 sub-neg a b = by (form a b)
@@ -108,7 +119,8 @@ sub-neg a b = by (form a b)
 -- q = p + (c - o)
 pub sub-moves : (p q c o : ℕ) → (pos q ≡ pos p +ℤ subℕ c o) ↔ (q + o ≡ p + c)
 sub-moves p q c o =
-    let sum : pos p +ℤ subℕ c o ≡ subℕ (p + c) (0 + o) = ap (λ z. z +ℤ subℕ c o) (pos-is p) ∙ sub-add p 0 c o in (
+    let sum : pos p +ℤ subℕ c o ≡ subℕ (p + c) (0 + o) =
+    ap (λ z. z +ℤ subℕ c o) (pos-is p) ∙ sub-add p 0 c o in (
       λ e. let k = sub-same q 0 (p + c) (0 + o) (sym (pos-is q) ∙ (e ∙ sum)) in omega arith,
       λ e. pos-is q ∙ (sub-eq q 0 (p + c) (0 + o) (omega arith) ∙ sym sum),
     )

@@ -1,4 +1,3 @@
-pub mod Truth
 pub mod Folds
 pub mod Reach
 pub mod Order
@@ -19,3 +18,8 @@ pub mod Cells
 pub mod Overlap
 pub mod Walks
 pub mod Trim
+pub mod Agree
+pub mod LoneEcho
+pub mod Differences
+pub mod Verdicts
+pub mod WorkedChains

@@ -1,9 +1,11 @@
--- Offsets as places: (x, y) stands for (x - 128, y - 128). Steps, walks, sums, paths and faults with no negative number, so that
--- what is asked of them is linear in ℕ. Bridge.antt shows that they say what Chain.antt says.
+-- Offsets as places: (x, y) stands for (x - centre, y - centre).
+-- Steps, walks, sums, paths and faults with no negative number,
+-- so that what is asked of them is linear in ℕ. Bridge.antt shows that they say what Chain.antt says.
 use Prim.Native.Nat.{_+_, _≤_, _<_, min, max}
 use mathlib.Core.Path.{_≡_}
 use mathlib.Core.Logic.{_⊎_}
 use mathlib.Core.List.{List, [], _∷_}
+use Rattle.answer.specs.Answer.{centre}
 use Rattle.element.specs.Shape.{Shape}
 use Rattle.morphology.specs.Step.{Place, Step}
 use Rattle.morphology.specs.Check.{still, Verdict, Taken, Split}
@@ -13,10 +15,11 @@ same-place ex ey = λ i. record { x = ex i; y = ey i }
 
 -- q = p + e
 pub record Moved (e p q : Place) : Type 0 where
-  pub across : q .x + 128 ≡ p .x + e .x
-  pub down : q .y + 128 ≡ p .y + e .y
+  pub across : q .x + centre ≡ p .x + e .x
+  pub down : q .y + centre ≡ p .y + e .y
 
--- from p to q by a choice of one offset from each link, in order; each place that is come to on the way lies inside
+-- from p to q by a choice of one offset from each link, in order;
+-- each place that is come to on the way lies inside
 abbrev pub Walk : (Place → Type 0) → List Shape → Place → Place → Type 0
 Walk inside [] p q = (p .x ≡ q .x) × (p .y ≡ q .y)
 Walk inside (B ∷ Bs) p q = (m : Place) × Step B p m × inside m × Walk inside Bs m q
@@ -33,10 +36,10 @@ SumAt Bs e = Walk (λ s. Unit {0}) Bs still e
 
 -- s lies between 0 and e in each coordinate, ends included
 pub record BetweenAt (e s : Place) : Type 0 where
-  pub left : min 128 (e .x) ≤ s .x
-  pub right : s .x ≤ max 128 (e .x)
-  pub upper : min 128 (e .y) ≤ s .y
-  pub lower : s .y ≤ max 128 (e .y)
+  pub left : min centre (e .x) ≤ s .x
+  pub right : s .x ≤ max centre (e .x)
+  pub upper : min centre (e .y) ≤ s .y
+  pub lower : s .y ≤ max centre (e .y)
 
 -- a choice with sum e, whose every partial sum lies between 0 and e
 abbrev pub PathAt : List Shape → Place → Type 0

@@ -17,7 +17,11 @@ use Rattle.morphology.proofs.Integers.{sub-moves}
 
 -- a step is an offset that the element has, added
 pub step-plus : (B : Shape) (p q : Place) (s : Step B p q) → Plus p (cellOffset B (s .cell)) q
-step-plus B p q s = record { across = sub-moves (p .x) (q .x) _ _ .1 (s .across); down = sub-moves (p .y) (q .y) _ _ .1 (s .down) }
+step-plus B p q s =
+    record {
+      across = sub-moves (p .x) (q .x) _ _ .1 (s .across);
+      down = sub-moves (p .y) (q .y) _ _ .1 (s .down);
+    }
 
 pub plus-step : (B : Shape) (p q : Place) (b : Offset) → Has B b → Plus p b q → Step B p q
 plus-step B p q b h m =
@@ -30,22 +34,33 @@ plus-step B p q b h m =
 module _ (F : Frame) (B : Shape) (A : Picture) (b : Bounded 1 F A) (p : Place) where
   pub eroded-set : (erode 1 F B A (p .x) (p .y) ≡ 1) ↔ Eroded F B A p
   eroded-set = (
-    λ e d h q m i. le-antisymm (b q i) (erosion flat 1 F B A p 1 .0 (le-of-eq (sym e)) .1 q i (plus-step B p q d h m)),
+    λ e d h q m i. le-antisymm (b q i)
+        (erosion flat 1 F B A p 1 .0 (le-of-eq (sym e)) .1 q i (plus-step B p q d h m)),
     λ each. le-antisymm (erode-top flat 1 F B A p)
-        (erosion flat 1 F B A p 1 .1 (le-refl 1, λ q i s. le-of-eq (sym (each _ (s .cell, refl) q (step-plus B p q s) i)))),
+        (erosion flat 1 F B A p 1 .1
+        (le-refl 1, λ q i s. le-of-eq (sym (each _ (s .cell, refl) q (step-plus B p q s) i)))),
   )
 
   pub dilated-set : (dilate F B A (p .x) (p .y) ≡ 1) ↔ Dilated F B A p
   dilated-set = (
     λ e.
         let k = dilate-found flat F B A p (omega arith) in
-        record { offset = _; has = (k .2 .0 .cell, refl); source = k .0; moved = step-plus B (k .0) p (k .2 .0); inside = k .1; set = sym (k .2 .1) ∙ e },
+        record {
+          offset = _;
+          has = (k .2 .0 .cell, refl);
+          source = k .0;
+          moved = step-plus B (k .0) p (k .2 .0);
+          inside = k .1;
+          set = sym (k .2 .1) ∙ e;
+        },
     λ d. le-antisymm (dilation flat F B A p 1 .1 (λ q i s. b q i))
-        (subst (λ n. n ≤ dilate F B A (p .x) (p .y)) (d .set) (le-dilate flat F B A (d .source) p (d .inside) (plus-step B (d .source) p (d .offset) (d .has) (d .moved)))),
+        (subst (λ n. n ≤ dilate F B A (p .x) (p .y)) (d .set) (le-dilate flat F B A (d .source) p (d .inside)
+        (plus-step B (d .source) p (d .offset) (d .has) (d .moved)))),
   )
 
 -- hit-or-miss
-pub hit-set : (F : Frame) (B C : Shape) (A : Picture) → Bounded 1 F A → (p : Place) → (hitMiss F B C A (p .x) (p .y) ≡ 1) ↔ Hit F B C A p
+pub hit-set : (F : Frame) (B C : Shape) (A : Picture) → Bounded 1 F A → (p : Place)
+    → (hitMiss F B C A (p .x) (p .y) ≡ 1) ↔ Hit F B C A p
 unfolding hitMiss
 hit-set F B C A b p =
     let hit = eroded-set F B A b p in

@@ -1,4 +1,5 @@
--- The weighted rule in document 01's order, the sums chosen among and then held, is the rule that holds each sum.
+-- The weighted rule in document 01's order,
+-- the sums chosen among and then held, is the rule that holds each sum.
 use Prim.Native.Nat.{ℕ, suc, _+_, _-_, _≤_, min, max}
 use mathlib.Core.Path.{_≡_, refl, ap, ap₂, _∙_}
 use mathlib.Core.Bool.{not}
@@ -17,7 +18,7 @@ use Rattle.morphology.specs.Operations.{onward, backward, erodeBy, dilat
 use Rattle.morphology.specs.Weighted.{lower, raise}
 use Rattle.morphology.specs.Order.{Bounded}
 use Rattle.morphology.specs.Sums.{held, heldOr, lesser, greater, among, erodeSums, dilateSums}
-use Rattle.morphology.proofs.Truth.{cond-holds}
+use Rattle.basics.proofs.Truth.{cond-holds}
 use Rattle.morphology.proofs.Folds.{gather-carried}
 use Rattle.morphology.proofs.Order.{erode-same, dilate-same}
 use Rattle.morphology.proofs.Weights.{signed}
@@ -32,7 +33,8 @@ held-most (negsuc n) = omega arith
 
 held-order : (s t : ℤ) → (T (leZ s t) → held s ≤ held t) × (T (not (leZ s t)) → held t ≤ held s)
 unfolding held
-held-order (pos a) (pos b) = (λ k. let h = leb→le a b k in omega arith, λ k. let h = nleb→lt a b k in omega arith)
+held-order (pos a) (pos b) =
+    (λ k. let h = leb→le a b k in omega arith, λ k. let h = nleb→lt a b k in omega arith)
 held-order (pos a) (negsuc b) = (λ k. absurd k, λ k. omega arith)
 held-order (negsuc a) (pos b) = (λ k. omega arith, λ k. absurd k)
 held-order (negsuc a) (negsuc b) = (λ k. le-refl 0, λ k. le-refl 0)
@@ -40,12 +42,14 @@ held-order (negsuc a) (negsuc b) = (λ k. le-refl 0, λ k. le-refl 0)
 held-lesser : (s t : ℤ) → held (lesser s t) ≡ min (held s) (held t)
 unfolding lesser
 held-lesser s t =
-    cond-holds (λ z. held z ≡ min (held s) (held t)) (leZ s t) s t (λ k. let h = held-order s t .0 k in omega arith) (λ k. let h = held-order s t .1 k in omega arith)
+    cond-holds (λ z. held z ≡ min (held s) (held t)) (leZ s t) s t
+    (λ k. let h = held-order s t .0 k in omega arith) (λ k. let h = held-order s t .1 k in omega arith)
 
 held-greater : (s t : ℤ) → held (greater s t) ≡ max (held s) (held t)
 unfolding greater
 held-greater s t =
-    cond-holds (λ z. held z ≡ max (held s) (held t)) (leZ s t) t s (λ k. let h = held-order s t .0 k in omega arith) (λ k. let h = held-order s t .1 k in omega arith)
+    cond-holds (λ z. held z ≡ max (held s) (held t)) (leZ s t) t s
+    (λ k. let h = held-order s t .0 k in omega arith) (λ k. let h = held-order s t .1 k in omega arith)
 
 among-lesser : (s t : Option ℤ) → heldOr 255 (among lesser s t) ≡ min (heldOr 255 s) (heldOr 255 t)
 unfolding heldOr among
@@ -65,7 +69,9 @@ among-greater (some s) (some t) = held-greater s t
 
 held-sub : (a b : ℕ) → held (subℕ a b) ≡ min (a - b) 255
 unfolding held
-held-sub a b = cond-holds (λ z. held z ≡ min (a - b) 255) (ltb a b) (negsuc (b - suc a)) (pos (a - b)) (λ t. let h = ltb→lt a b t in omega arith) (λ t. refl)
+held-sub a b =
+    cond-holds (λ z. held z ≡ min (a - b) 255) (ltb a b) (negsuc (b - suc a))
+    (pos (a - b)) (λ t. let h = ltb→lt a b t in omega arith) (λ t. refl)
 
 -- the value v less the height a - b, and with it
 held-less : (v a b : ℕ) → held (pos v -ℤ subℕ a b) ≡ min (v + b - a) 255
@@ -73,30 +79,36 @@ held-less v a b =
     ap held (ap₂ _+ℤ_ (pos-is v) (sub-neg a b) ∙ sub-add v 0 b a) ∙ (held-sub (v + b) (0 + a) ∙ omega arith)
 
 held-more : (v a b : ℕ) → held (pos v +ℤ subℕ a b) ≡ min (v + a - b) 255
-held-more v a b = ap held (ap (λ z. z +ℤ subℕ a b) (pos-is v) ∙ sub-add v 0 a b) ∙ (held-sub (v + a) (0 + b) ∙ omega arith)
+held-more v a b =
+    ap held (ap (λ z. z +ℤ subℕ a b) (pos-is v) ∙ sub-add v 0 a b) ∙ (held-sub (v + a) (0 + b) ∙ omega arith)
 
 module _ (g v : ℕ) (byte : g ≤ 255) (small : v ≤ 255) where
   lowered : held (pos v -ℤ heightOf g) ≡ lower g v
   lowered =
       ⊎-elim (λ k. ap (λ z. held (pos v -ℤ z)) (k .height) ∙ (held-less v g 0 ∙ omega (arith, k .lowers v)))
-      (λ k. ap (λ z. held (pos v -ℤ z)) (k .height) ∙ (held-less v g 256 ∙ omega (arith, k .lowers v))) (signed g)
+      (λ k. ap (λ z. held (pos v -ℤ z)) (k .height) ∙ (held-less v g 256 ∙ omega (arith, k .lowers v)))
+      (signed g)
 
   raised : held (pos v +ℤ heightOf g) ≡ raise g v
   raised =
       ⊎-elim (λ k. ap (λ z. held (pos v +ℤ z)) (k .height) ∙ (held-more v g 0 ∙ omega (arith, k .raises v)))
-      (λ k. ap (λ z. held (pos v +ℤ z)) (k .height) ∙ (held-more v g 256 ∙ omega (arith, k .raises v))) (signed g)
+      (λ k. ap (λ z. held (pos v +ℤ z)) (k .height) ∙ (held-more v g 256 ∙ omega (arith, k .raises v)))
+      (signed g)
 
 -- ---- the two orders agree
 
-module _ (F : Frame) (B : Shape) (byte : (c r : ℕ) → B .height c r ≤ 255) (A : Picture) (b : Bounded 255 F A) (p : Place) where
+module _ (F : Frame) (B : Shape) (byte : (c r : ℕ) → B .height c r ≤ 255)
+    (A : Picture) (b : Bounded 255 F A) (p : Place) where
   pub erode-sums : erodeSums F B A (p .x) (p .y) ≡ erodeBy lower 255 F B A (p .x) (p .y)
   unfolding erodeSums heldOr erodeBy
   erode-sums =
       gather-carried (among lesser) min (heldOr 255) among-lesser none B (onward F B (p .x) (p .y)) _
-      ∙ erode-same (λ g v. held (pos v -ℤ heightOf g)) lower F B A A p 255 (λ q i s. lowered _ _ (byte _ _) (b q i))
+      ∙ erode-same (λ g v. held (pos v -ℤ heightOf g)) lower
+      F B A A p 255 (λ q i s. lowered _ _ (byte _ _) (b q i))
 
   pub dilate-sums : dilateSums F B A (p .x) (p .y) ≡ dilateBy raise F B A (p .x) (p .y)
   unfolding dilateSums heldOr dilateBy
   dilate-sums =
       gather-carried (among greater) max (heldOr 0) among-greater none B (backward F B (p .x) (p .y)) _
-      ∙ dilate-same (λ g v. held (pos v +ℤ heightOf g)) raise F B A A p (λ q i s. raised _ _ (byte _ _) (b q i))
+      ∙ dilate-same (λ g v. held (pos v +ℤ heightOf g)) raise
+      F B A A p (λ q i s. raised _ _ (byte _ _) (b q i))

@@ -1,4 +1,5 @@
--- Document 01, "Chains": offsets, sums, paths, faults, and the chained runs. A chain is a list of elements, its links.
+-- Document 01, "Chains": offsets, sums, paths, faults, and the chained runs.
+-- A chain is a list of elements, its links.
 use Prim.Native.Nat.{ℕ, _≤_, _<_}
 use mathlib.Core.Path.{_≡_}
 use mathlib.Core.Logic.{_⊎_}

@@ -5,25 +5,22 @@ use mathlib.Core.Bool.{Bool, true, false, not, _&&_}
 use mathlib.Core.List.{List, [], _∷_}
 use lib.Dec.{leb, eqb}
 use lib.IntN.{subℕ}
+use Rattle.answer.specs.Answer.{centre}
+use Rattle.basics.specs.Tests.{any}
 use Rattle.element.specs.Shape.{Shape, Offset}
 use Rattle.morphology.specs.Step.{Place}
 use Rattle.morphology.specs.Operations.{moved, within}
 use Rattle.morphology.specs.Chain.{Accepted, Fault, First}
 
--- Here a place stands for the offset (x - 128, y - 128), so that no number is negative, and `still` for (0, 0). There is room: the offsets of
--- an element lie within -63..63, the sums of a chain within -35..35.
+-- Here a place stands for the offset (x - centre, y - centre), so that no number is negative, and `still` for
+-- (0, 0). There is room: the offsets of an element lie within -63..63, the sums of a chain within -35..35.
 abbrev pub value : Place → Offset
-value p = record { dx = subℕ (p .x) 128; dy = subℕ (p .y) 128 }
+value p = record { dx = subℕ (p .x) centre; dy = subℕ (p .y) centre }
 
 abbrev pub still : Place
-still = record { x = 128; y = 128 }
+still = record { x = centre; y = centre }
 
 -- ---- the tests
-
--- some i below n passes
-unfoldable pub any : (ℕ → Bool) → ℕ → Bool
-any f zero = false
-any f (suc n) = elim (f n) [ true ↦ true | false ↦ any f n ]
 
 -- q = p + b for the offset b of a set cell of B: the cell q - p + origin
 unfoldable pub stepTest : Shape → Place → Place → Bool
@@ -49,7 +46,7 @@ walkTest inside (B ∷ Bs) p q =
 
 -- s lies between 0 and e, ends included; and in each coordinate
 abbrev pub amidTest : ℕ → ℕ → Bool
-amidTest e s = leb (min 128 e) s && leb s (max 128 e)
+amidTest e s = leb (min centre e) s && leb s (max centre e)
 
 unfoldable pub betweenTest : Place → Place → Bool
 betweenTest e s = amidTest (e .x) (s .x) && amidTest (e .y) (s .y)
@@ -77,7 +74,8 @@ pub data Verdict : Type 0 where
 -- the first of the n columns from x on that passes in row y, or else what comes after
 unfoldable pub scanRow : (Place → Bool) → ℕ → ℕ → ℕ → Verdict → Verdict
 scanRow test y x zero after = after
-scanRow test y x (suc n) after = elim (test (record { x = x; y = y })) [ true ↦ Split x y | false ↦ scanRow test y (suc x) n after ]
+scanRow test y x (suc n) after =
+    elim (test (record { x = x; y = y })) [ true ↦ Split x y | false ↦ scanRow test y (suc x) n after ]
 
 -- the first place that passes, row after row: n rows from y on, each of k columns from x on
 unfoldable pub scan : (Place → Bool) → ℕ → ℕ → ℕ → ℕ → Verdict
@@ -106,7 +104,8 @@ unfoldable pub scanReach : Shape → List Shape → (Place → Bool) → Verdict
 scanReach E Bs test =
     let l = max (E .origin-column) (backX Bs) in
     let u = max (E .origin-row) (backY Bs) in
-    scan test (128 - l) (l + max (E .wide - 1 - E .origin-column) (forthX Bs) + 1) (128 - u) (u + max (E .high - 1 - E .origin-row) (forthY Bs) + 1)
+    scan test (centre - l) (l + max (E .wide - 1 - E .origin-column) (forthX Bs) + 1)
+    (centre - u) (u + max (E .high - 1 - E .origin-row) (forthY Bs) + 1)
 
 -- the check
 unfoldable pub checkOf : Shape → List Shape → Verdict

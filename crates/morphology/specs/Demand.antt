@@ -1,4 +1,5 @@
--- What demand 3 speaks of: the same on every picture in every frame, and a lone echo that is dilated differently.
+-- What demand 3 speaks of: the same on every picture in every frame,
+-- and a lone echo that is dilated differently.
 use Prim.Native.Nat.{ℕ, _≤_}
 use mathlib.Core.Path.{_≡_}
 use mathlib.Core.Bool.{_&&_, cond}
@@ -30,7 +31,8 @@ pub record Same (top : ℕ) (E : Shape) (Bs : List Shape) : Type 0 where
 unfoldable pub lone : ℕ → Place → Picture
 lone top a x y = cond (eqb x (a .x) && eqb y (a .y)) top 0
 
--- in some frame some lone echo is dilated differently, at the echo's point moved by e, by the element and by the chain
+-- in some frame some lone echo is dilated differently,
+-- at the echo's point moved by e, by the element and by the chain
 pub record Differs (top : ℕ) (E : Shape) (Bs : List Shape) (e : Offset) : Type 0 where
   pub frame : Frame
   pub limits : Limits frame
@@ -39,4 +41,5 @@ pub record Differs (top : ℕ) (E : Shape) (Bs : List Shape) (e : Offset) : Type
   pub echo-in : In frame echo
   pub point-in : In frame point
   pub moved : Plus echo e point
-  pub differ : ¬ (dilateAll frame Bs (lone top echo) (point .x) (point .y) ≡ dilate frame E (lone top echo) (point .x) (point .y))
+  pub differ : ¬ (dilateAll frame Bs (lone top echo) (point .x) (point .y)
+      ≡ dilate frame E (lone top echo) (point .x) (point .y))

@@ -1,4 +1,5 @@
--- Document 01, "Errors a good engineer makes here", as definitions. proofs/Mistakes.antt: each breaks a worked row.
+-- Document 01, "Errors a good engineer makes here", as definitions.
+-- proofs/Mistakes.antt: each breaks a worked row.
 use Prim.Native.Nat.{max}
 use mathlib.Core.Bool.{xor}
 use mathlib.Core.List.{List}

@@ -1,5 +1,6 @@
--- Document 01, "The definitions", once for both depths: `top` is the greatest value of a point, 1 or 255. A is the picture, B the element, F the
--- frame and (x, y) the point p. The cell (c, r) of B stands for the offset b = (c - origin column, r - origin row).
+-- Document 01, "The definitions", once for both depths: `top` is the greatest value of a point, 1 or 255.
+-- A is the picture, B the element, F the frame and (x, y) the point p.
+-- The cell (c, r) of B stands for the offset b = (c - origin column, r - origin row).
 use Prim.Native.Nat.{ℕ, zero, suc, _+_, _-_, min, max}
 use mathlib.Core.Bool.{Bool, _&&_, cond}
 use lib.Dec.{leb, ltb}
@@ -14,7 +15,8 @@ fold join z f (suc n) = join (fold join z f n) (f n)
 
 -- the values of the cells that are taken, joined row after row; z if there is none
 unfoldable pub gather : {A : Type 0} → (A → A → A) → A → Shape → (ℕ → ℕ → Bool) → (ℕ → ℕ → A) → A
-gather join z B taken value = fold join z (λ r. fold join z (λ c. cond (taken c r) (value c r) z) (B .wide)) (B .high)
+gather join z B taken value =
+    fold join z (λ r. fold join z (λ c. cond (taken c r) (value c r) z) (B .wide)) (B .high)
 
 -- p + (plus - minus), and whether it is one of 0, 1, .., n - 1
 abbrev pub moved : ℕ → ℕ → ℕ → ℕ
@@ -25,10 +27,12 @@ within n p plus minus = leb minus (p + plus) && ltb (moved p plus minus) n
 
 -- the set cells with p + b in the frame; and those with p - b in the frame
 abbrev pub onward : Frame → Shape → ℕ → ℕ → ℕ → ℕ → Bool
-onward F B x y c r = B .has c r && (within (F .pings) x c (B .origin-column) && within (F .bins) y r (B .origin-row))
+onward F B x y c r =
+    B .has c r && (within (F .pings) x c (B .origin-column) && within (F .bins) y r (B .origin-row))
 
 abbrev pub backward : Frame → Shape → ℕ → ℕ → ℕ → ℕ → Bool
-backward F B x y c r = B .has c r && (within (F .pings) x (B .origin-column) c && within (F .bins) y (B .origin-row) r)
+backward F B x y c r =
+    B .has c r && (within (F .pings) x (B .origin-column) c && within (F .bins) y (B .origin-row) r)
 
 -- what an element does with a value, given the height of the cell
 abbrev pub Change : Type 0
@@ -37,12 +41,14 @@ Change = ℕ → ℕ → ℕ
 -- the least A(p + b), each lowered by its cell, over those b with p + b in the frame; top if there is none
 unfoldable pub erodeBy : Change → ℕ → Frame → Shape → Picture → Picture
 erodeBy lower top F B A x y =
-    gather min top B (onward F B x y) (λ c r. lower (B .height c r) (A (moved x c (B .origin-column)) (moved y r (B .origin-row))))
+    gather min top B (onward F B x y)
+    (λ c r. lower (B .height c r) (A (moved x c (B .origin-column)) (moved y r (B .origin-row))))
 
 -- the greatest A(p - b), each raised by its cell, over those b with p - b in the frame; 0 if there is none
 unfoldable pub dilateBy : Change → Frame → Shape → Picture → Picture
 dilateBy raise F B A x y =
-    gather max 0 B (backward F B x y) (λ c r. raise (B .height c r) (A (moved x (B .origin-column) c) (moved y (B .origin-row) r)))
+    gather max 0 B (backward F B x y)
+    (λ c r. raise (B .height c r) (A (moved x (B .origin-column) c) (moved y (B .origin-row) r)))
 
 -- erosion, then dilation by the same element; and dilation, then erosion
 abbrev pub openBy : Change → Change → ℕ → Frame → Shape → Picture → Picture
@@ -55,7 +61,8 @@ closeBy lower raise top F B A = erodeBy lower top F B (dilateBy raise F B A)
 abbrev pub flat : Change
 flat height value = value
 
--- erosion, of one bit with top 1 and of 8 bits with top 255: the least A(p + b) over those b with p + b in the frame; top if there is none
+-- erosion, of one bit with top 1 and of 8 bits with top 255:
+-- the least A(p + b) over those b with p + b in the frame; top if there is none
 abbrev pub erode : ℕ → Frame → Shape → Picture → Picture
 erode top F B A = erodeBy flat top F B A
 

@@ -1,4 +1,5 @@
--- How pictures compare in a frame, and when what a cell does in erosion and what it does in dilation belong together.
+-- How pictures compare in a frame,
+-- and when what a cell does in erosion and what it does in dilation belong together.
 use Prim.Native.Nat.{ℕ, _-_, _≤_}
 use mathlib.Core.Path.{_≡_}
 use mathlib.Core.Logic.{_↔_}

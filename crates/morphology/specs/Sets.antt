@@ -1,4 +1,5 @@
--- One-bit erosion, dilation and hit-or-miss in document 01's own words, with offsets as integers. proofs/Sets.antt: they are the definitions with top 1.
+-- One-bit erosion, dilation and hit-or-miss in document 01's own words, with offsets as integers.
+-- proofs/Sets.antt: they are the definitions with top 1.
 use mathlib.Core.Path.{_≡_}
 use Rattle.picture.specs.Frame.{Frame}
 use Rattle.picture.specs.Bytes.{Picture}

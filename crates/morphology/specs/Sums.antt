@@ -1,4 +1,5 @@
--- The weighted rule in document 01's own order: the least, or the greatest, of the integer sums, which is then held to 0..255.
+-- The weighted rule in document 01's own order:
+-- the least, or the greatest, of the integer sums, which is then held to 0..255.
 -- proofs/Sums.antt: it gives what Weighted.antt gives, where each sum is held by itself.
 use Prim.Native.Nat.{ℕ, min}
 use mathlib.Core.Bool.{cond}
@@ -37,10 +38,12 @@ among choose (some s) (some t) = some (choose s t)
 unfoldable pub erodeSums : Frame → Shape → Picture → Picture
 erodeSums F B A x y =
     heldOr 255 (gather (among lesser) none B (onward F B x y)
-    (λ c r. some (pos (A (moved x c (B .origin-column)) (moved y r (B .origin-row))) -ℤ heightOf (B .height c r))))
+    (λ c r.
+    some (pos (A (moved x c (B .origin-column)) (moved y r (B .origin-row))) -ℤ heightOf (B .height c r))))
 
 -- the greatest of A(p - b) + g(b), over those b with p - b in the frame, then held; 0 if there is none
 unfoldable pub dilateSums : Frame → Shape → Picture → Picture
 dilateSums F B A x y =
     heldOr 0 (gather (among greater) none B (backward F B x y)
-    (λ c r. some (pos (A (moved x (B .origin-column) c) (moved y (B .origin-row) r)) +ℤ heightOf (B .height c r))))
+    (λ c r.
+    some (pos (A (moved x (B .origin-column) c) (moved y (B .origin-row) r)) +ℤ heightOf (B .height c r))))

@@ -1,18 +1,19 @@
--- Weighted erosion, dilation, opening and closing of 8-bit pictures. A height is a byte g: 0 to 127 are themselves, 129 to 255 stand for -127 to -1.
+-- Weighted erosion, dilation, opening and closing of 8-bit pictures.
+-- A height is a byte g: 0 to 127 are themselves, 129 to 255 stand for -127 to -1.
 use Prim.Native.Nat.{_+_, _-_, _^_, min}
 use mathlib.Core.Bool.{cond}
 use lib.Dec.{ltb}
 use Rattle.picture.specs.Frame.{Frame}
 use Rattle.picture.specs.Bytes.{Picture}
-use Rattle.element.specs.Shape.{Shape}
+use Rattle.element.specs.Shape.{Shape, signBit}
 use Rattle.morphology.specs.Operations.{Change, erodeBy, dilateBy, openBy, closeBy}
 
 -- value - height, and value + height, held to 0..255
 unfoldable pub lower : Change
-lower g v = cond (ltb g 128) (v - g) (min 255 (v + (2 ^ 8 - g)))
+lower g v = cond (ltb g signBit) (v - g) (min 255 (v + (2 ^ 8 - g)))
 
 unfoldable pub raise : Change
-raise g v = cond (ltb g 128) (min 255 (v + g)) (v - (2 ^ 8 - g))
+raise g v = cond (ltb g signBit) (min 255 (v + g)) (v - (2 ^ 8 - g))
 
 abbrev pub erodeWeighted : Frame → Shape → Picture → Picture
 erodeWeighted F B A = erodeBy lower 255 F B A

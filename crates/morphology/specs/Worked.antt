@@ -7,6 +7,7 @@ use lib.Dec.{eqb}
 use lib.IntN.{ℤ, pos, subℕ}
 use lib.ListN.{getD}
 use lib.Signed.{leZ}
+use Rattle.answer.specs.Answer.{centre}
 use Rattle.basics.specs.Bits.{bit, on}
 use Rattle.basics.specs.Tests.{all}
 use Rattle.picture.specs.Frame.{Frame, frame}
@@ -45,7 +46,8 @@ minus n = subℕ 0 n
 
 -- ---- a row of the table
 
--- in the frame the first picture is the second; the check accepts the element and its links, or splits them at the offset
+-- in the frame the first picture is the second;
+-- the check accepts the element and its links, or splits them at the offset
 pub data Row : Type 0 where
   gives : Frame → Picture → Picture → Row
   accepts : Shape → List Shape → Row
@@ -63,7 +65,7 @@ takenBy (Split x y) = false
 
 unfoldable pub splitBy : Verdict → ℤ → ℤ → Bool
 splitBy Taken u v = false
-splitBy (Split x y) u v = sameZ (subℕ x 128) u && sameZ (subℕ y 128) v
+splitBy (Split x y) u v = sameZ (subℕ x centre) u && sameZ (subℕ y centre) v
 
 unfoldable pub right : Row → Bool
 right (gives F A R) = sameIn F A R
@@ -128,11 +130,13 @@ table A =
     ∷ gives seven (erode 1 seven empty A) (bits seven 0b1111111)
     ∷ gives seven (dilate seven empty A) (bits seven 0b0000000)
     -- P8
-    ∷ gives three (erode 255 three (span 1 0) (bytes three (10 ∷ 200 ∷ 30 ∷ []))) (bytes three (10 ∷ 10 ∷ 30 ∷ []))
+    ∷ gives three (erode 255 three (span 1 0) (bytes three (10 ∷ 200 ∷ 30 ∷ [])))
+    (bytes three (10 ∷ 10 ∷ 30 ∷ []))
     -- P9
     ∷ gives three (dilate three next (bytes three (10 ∷ 200 ∷ 30 ∷ []))) (bytes three (0 ∷ 10 ∷ 200 ∷ []))
     -- P10
-    ∷ gives square (dilate square (cells 2 2 0 0 0b10_11) (bits square 0b000_010_000)) (bits square 0b000_010_011)
+    ∷ gives square (dilate square (cells 2 2 0 0 0b10_11) (bits square 0b000_010_000))
+    (bits square 0b000_010_011)
     -- P11
     ∷ gives five (hitMiss five (span 0 0) next (bits five 0b01101)) (bits five 0b00101)
     -- P12

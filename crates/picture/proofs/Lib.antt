@@ -1,8 +1,7 @@
 pub mod Sizes
 pub mod Rows
-pub mod Copies
 pub mod Points
 pub mod Padding
-pub mod Back
+pub mod Bytes
 pub mod Settled
 pub mod Shown

@@ -27,7 +27,9 @@ module _ (s : List ℕ) (w h : ℕ) (some : 1 ≤ w) where
   unfolding paddingClear lastsClear valueAt valueIn last
   clear-zero e x y hx hr hy =
       ap (λ i. bit (getD s (y * rowBytes OneBit w + i) 0) (7 - x % 8)) (last-byte w x hx hr)
-      ∙ low-clear (last y) (spareBits OneBit w) (eqb-true _ 0 (all-at (lastClear s (rowBytes OneBit w) (2 ^ spareBits OneBit w)) h e y hy)) (7 - x % 8) (spare w x hx hr)
+      ∙ low-clear (last y) (spareBits OneBit w)
+      (eqb-true _ 0 (all-at (lastClear s (rowBytes OneBit w) (2 ^ spareBits OneBit w)) h e y hy))
+      (7 - x % 8) (spare w x hx hr)
     where
       last-byte : (w x : ℕ) → w ≤ x → x / 8 < (w + 7) / 8 → x / 8 ≡ (w + 7) / 8 - 1
       last-byte w x h r = omega arith
@@ -40,7 +42,8 @@ module _ (s : List ℕ) (w h : ℕ) (some : 1 ≤ w) where
   zero-clear each =
       all-of (lastClear s (rowBytes OneBit w) (2 ^ spareBits OneBit w)) h
       (λ y l. eq-eqb _ 0 (clear-low (last y) (spareBits OneBit w)
-      (λ k m. ap₂ (λ i j. bit (getD s (y * rowBytes OneBit w + i) 0) j) (byte w k some m) (place w k some m) ∙ each (column w k) y (past w k some m) (row w k some m) l)))
+      (λ k m. ap₂ (λ i j. bit (getD s (y * rowBytes OneBit w + i) 0) j) (byte w k some m) (place w k some m)
+      ∙ each (column w k) y (past w k some m) (row w k some m) l)))
     where
       column : ℕ → ℕ → ℕ
       column w k = (w + 7) / 8 * 8 - 1 - k
@@ -57,8 +60,10 @@ module _ (s : List ℕ) (w h : ℕ) (some : 1 ≤ w) where
       row : (w k : ℕ) → 1 ≤ w → k < (w + 7) / 8 * 8 - w → ((w + 7) / 8 * 8 - 1 - k) / 8 < (w + 7) / 8
       row w k o m = omega arith
 
-pub written-clear : (A : Picture) (w h : ℕ) (t : List ℕ) → 1 ≤ w → ((x y : ℕ) → x < w → y < h → A x y ≤ 1) → paddingClear OneBit (written OneBit A w h t) w h ≡ true
-written-clear A w h t some small = zero-clear (written OneBit A w h t) w h some (written-padding A w h t small)
+pub written-clear : (A : Picture) (w h : ℕ) (t : List ℕ) → 1 ≤ w → ((x y : ℕ) → x < w → y < h → A x y ≤ 1)
+    → paddingClear OneBit (written OneBit A w h t) w h ≡ true
+written-clear A w h t some small =
+    zero-clear (written OneBit A w h t) w h some (written-padding A w h t small)
 
 -- of 8 bits there is no padding to be anything
 pub eight-clear : (s : List ℕ) (w h : ℕ) → paddingClear EightBit s w h ≡ true

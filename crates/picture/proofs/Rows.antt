@@ -22,11 +22,13 @@ unfolding rowOf
 row-length depth f w = length-firsts (rowByte depth f w) (rowBytes depth w)
 
 -- rows of the same columns have the same bytes
-pub row-same : (depth : Depth) (f g : ℕ → ℕ) (w : ℕ) → ((x : ℕ) → x < w → f x ≡ g x) → rowOf depth f w ≡ rowOf depth g w
+pub row-same : (depth : Depth) (f g : ℕ → ℕ) (w : ℕ) → ((x : ℕ) → x < w → f x ≡ g x)
+    → rowOf depth f w ≡ rowOf depth g w
 unfolding rowOf rowByte
 row-same OneBit f g w each =
     firsts-same _ _ (rowBytes OneBit w)
-    (λ i l. digits-same 1 _ _ 8 (λ k m. cond-same (ltb (i * 8 + k) w) (f (i * 8 + k)) (g (i * 8 + k)) 0 0 (λ e. each (i * 8 + k) (ltb-true (i * 8 + k) w e)) (λ e. refl)))
+    (λ i l. digits-same 1 _ _ 8 (λ k m. cond-same (ltb (i * 8 + k) w) (f (i * 8 + k))
+    (g (i * 8 + k)) 0 0 (λ e. each (i * 8 + k) (ltb-true (i * 8 + k) w e)) (λ e. refl)))
 row-same EightBit f g w each = firsts-same f g w each
 
 -- of one bit: a digit of a byte is a column, and 0 past the row's end
@@ -40,12 +42,15 @@ module _ (f : ℕ → ℕ) (w : ℕ) (small : (x : ℕ) → x < w → f x ≤ 1)
 
   pub row-byte-lt : (i : ℕ) → rowByte OneBit f w i < 256
   unfolding rowByte
-  row-byte-lt i = digits-below 1 (λ k. cond (ltb (i * 8 + k) w) (f (i * 8 + k)) 0) (λ k. column-small (i * 8 + k)) 8
+  row-byte-lt i =
+      digits-below 1 (λ k. cond (ltb (i * 8 + k) w) (f (i * 8 + k)) 0) (λ k. column-small (i * 8 + k)) 8
 
-  pub row-bit : (i k : ℕ) → k < 8 → bit (rowByte OneBit f w i) k ≡ cond (ltb (i * 8 + (7 - k)) w) (f (i * 8 + (7 - k))) 0
+  pub row-bit : (i k : ℕ) → k < 8
+      → bit (rowByte OneBit f w i) k ≡ cond (ltb (i * 8 + (7 - k)) w) (f (i * 8 + (7 - k))) 0
   unfolding rowByte
   row-bit i k h =
-      ap (bit (digits 1 g 8)) (digit k h) ∙ bit-digits 1 g (λ j. column-small (i * 8 + j)) 8 (7 - k) 0 (omega arith) (omega arith)
+      ap (bit (digits 1 g 8)) (digit k h)
+      ∙ bit-digits 1 g (λ j. column-small (i * 8 + j)) 8 (7 - k) 0 (omega arith) (omega arith)
       ∙ bit-zero (g (7 - k)) ∙ last (g (7 - k)) (column-small (i * 8 + (7 - k)))
     where
       g : ℕ → ℕ
@@ -58,7 +63,8 @@ module _ (f : ℕ → ℕ) (w : ℕ) (small : (x : ℕ) → x < w → f x ≤ 1)
       last n h = omega arith
 
   -- column x of the row's bytes, padding included
-  pub row-held : (x : ℕ) → x / 8 < rowBytes OneBit w → valueIn OneBit (getD (rowOf OneBit f w) (x / 8) 0) x ≡ cond (ltb x w) (f x) 0
+  pub row-held : (x : ℕ) → x / 8 < rowBytes OneBit w
+      → valueIn OneBit (getD (rowOf OneBit f w) (x / 8) 0) x ≡ cond (ltb x w) (f x) 0
   unfolding rowOf valueIn
   row-held x h =
       ap (λ b. bit b (place x)) (getD-firsts (rowByte OneBit f w) (rowBytes OneBit w) (x / 8) h)
@@ -70,9 +76,11 @@ module _ (f : ℕ → ℕ) (w : ℕ) (small : (x : ℕ) → x < w → f x ≤ 1)
 pub row-value : (depth : Depth) (f : ℕ → ℕ) (w : ℕ) → ((x : ℕ) → x < w → f x ≤ top depth) → (x : ℕ) → x < w
     → valueIn depth (getD (rowOf depth f w) (columnByte depth x) 0) x ≡ f x
 unfolding rowOf valueIn rowByte
-row-value OneBit f w small x h = row-held f w small x (column-in OneBit x w h) ∙ ap (λ b. cond b (f x) 0) (lt-ltb x w h)
+row-value OneBit f w small x h =
+    row-held f w small x (column-in OneBit x w h) ∙ ap (λ b. cond b (f x) 0) (lt-ltb x w h)
 row-value EightBit f w small x h = getD-firsts f w x h
 
-pub row-padding : (f : ℕ → ℕ) (w : ℕ) → ((x : ℕ) → x < w → f x ≤ 1) → (x : ℕ) → w ≤ x → x / 8 < rowBytes OneBit w
+pub row-padding : (f : ℕ → ℕ) (w : ℕ) → ((x : ℕ) → x < w → f x ≤ 1) → (x : ℕ) → w ≤ x
+    → x / 8 < rowBytes OneBit w
     → valueIn OneBit (getD (rowOf OneBit f w) (x / 8) 0) x ≡ 0
 row-padding f w small x h l = row-held f w small x l ∙ ap (λ b. cond b (f x) 0) (le-ltb x w h)

@@ -1,4 +1,5 @@
--- Any two outcomes that a contract allows of one call are the same: for each public function, of its contract itself, as the prover reads it.
+-- Any two outcomes that a contract allows of one call are the same: for each public function, of its contract
+-- itself, as the prover reads it.
 use Rattle.basics.proofs.Settled.{Settles, SettlesBytes, settled}
 use Rattle.picture.proofs.sized.Kinds as sized-kinds
 use Rattle.picture.proofs.sized.Reads as sized
@@ -12,10 +13,10 @@ use Rattle.picture.proofs.value.Kinds as value-kinds
 use Rattle.picture.proofs.value.Reads as value
 use Rattle.picture.proofs.put.Kinds as put-kinds
 use Rattle.picture.proofs.put.Reads as put
+use Rattle.picture.proofs.spare_bits.Kinds as spare-bits-kinds
+use Rattle.picture.proofs.spare_bits.Reads as spare-bits
 use Rattle.picture.proofs.padding_clear.Kinds as padding-clear-kinds
 use Rattle.picture.proofs.padding_clear.Reads as padding-clear
-use Rattle.picture.proofs.copy_picture.Kinds as copy-picture-kinds
-use Rattle.picture.proofs.copy_picture.Reads as copy-picture
 
 pub sized-settled : Settles 0 sized-kinds.ps sized-kinds.r sized.Learnt
 sized-settled κs a x y s t p q = settled p q
@@ -35,8 +36,8 @@ value-settled κs a x y s t p q = settled p q
 pub put-settled : SettlesBytes 1 put-kinds.ps put-kinds.r put.Learnt (λ κs e. e .1 .0 .now)
 put-settled κs a x y s t p q = settled p q
 
+pub spare-bits-settled : Settles 0 spare-bits-kinds.ps spare-bits-kinds.r spare-bits.Learnt
+spare-bits-settled κs a x y s t p q = settled p q
+
 pub padding-clear-settled : Settles 1 padding-clear-kinds.ps padding-clear-kinds.r padding-clear.Learnt
 padding-clear-settled κs a x y s t p q = settled p q
-
-pub copy-picture-settled : SettlesBytes 2 copy-picture-kinds.ps copy-picture-kinds.r copy-picture.Learnt (λ κs e. e .1 .1 .1 .0 .now)
-copy-picture-settled κs a x y s t p q = settled p q

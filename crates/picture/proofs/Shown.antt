@@ -13,10 +13,12 @@ use Rattle.picture.specs.Bytes.{Picture, rowByte, rowOf, bytesOf, writte
 use Rattle.picture.proofs.Rows.{row-length}
 use Rattle.picture.proofs.Points.{written-value}
 
-pub written-shown : (depth : Depth) (A : Picture) (w h : ℕ) (t : List ℕ) → (depth ≡ OneBit → (x y : ℕ) → x < w → y < h → A x y ≤ 1) → (x y : ℕ) → x < w → y < h
+pub written-shown : (depth : Depth) (A : Picture) (w h : ℕ) (t : List ℕ)
+    → (depth ≡ OneBit → (x y : ℕ) → x < w → y < h → A x y ≤ 1) → (x y : ℕ) → x < w → y < h
     → valueAt depth (written depth A w h t) w x y ≡ A x y
 unfolding valueAt valueIn written bytesOf rowOf rowByte
 written-shown OneBit A w h t small x y hx hy = written-value OneBit A w h t (small refl) x y hx hy
 written-shown EightBit A w h t small x y hx hy =
-    getD-joined (λ y. rowOf EightBit (λ x. A x y) w) w (λ y. row-length EightBit (λ x. A x y) w) h y x (drop (pictureBytes EightBit w h) t) hy hx
+    getD-joined (λ y. rowOf EightBit (λ x. A x y) w) w
+    (λ y. row-length EightBit (λ x. A x y) w) h y x (drop (pictureBytes EightBit w h) t) hy hx
     ∙ getD-firsts (λ x. A x y) w x hx

@@ -32,7 +32,8 @@ column-small EightBit x = omega arith
 
 -- a byte's place fits a machine word, whatever the bin
 pub byte-fits : (y r q : ℕ) → y < 2 ^ 16 → r ≤ mostPings → q < 2 ^ 16 → y * r + q < 2 ^ 64
-byte-fits y r q hy hr hq = omega (arith, mul-le-mul {n₁ = y} {m₁ = r} {n₂ = 65535} {m₂ = mostPings} (omega arith) hr)
+byte-fits y r q hy hr hq =
+    omega (arith, mul-le-mul {n₁ = y} {m₁ = r} {n₂ = 65535} {m₂ = mostPings} (omega arith) hr)
 
 pub spare-few : (depth : Depth) (w : ℕ) → spareBits depth w < 8
 spare-few OneBit w = omega arith
@@ -40,13 +41,16 @@ spare-few EightBit w = omega arith
 
 -- one bit above the spare ones, in a byte
 pub spare-mask : (depth : Depth) (w u : ℕ) → u ≡ spareBits depth w → 1 * 2 ^ u % 256 ≡ 2 ^ spareBits depth w
-spare-mask depth w u e = ap (λ n. 1 * 2 ^ n % 256) e ∙ shl-exact 1 (spareBits depth w) 8 (lit< tt) (omega (arith, spare-few depth w)) ∙ one-mul _
+spare-mask depth w u e =
+    ap (λ n. 1 * 2 ^ n % 256) e
+    ∙ shl-exact 1 (spareBits depth w) 8 (lit< tt) (omega (arith, spare-few depth w)) ∙ one-mul _
 
 -- row y of n rows of r bytes
 pub row-room : (r : ℕ) {y n : ℕ} → y < n → y * r + r ≤ n * r
 row-room r {y} {n} h = omega (arith, mul-le-mul-right r h)
 
-pub picture-few : (depth : Depth) (w h : ℕ) → w ≤ mostPings → h ≤ mostBins → pictureBytes depth w h ≤ mostBins * mostPings
+pub picture-few : (depth : Depth) (w h : ℕ) → w ≤ mostPings → h ≤ mostBins
+    → pictureBytes depth w h ≤ mostBins * mostPings
 picture-few depth w h p q = mul-le-mul q (row-few depth w p)
 
 -- what a frame within the limits tells
@@ -62,4 +66,9 @@ sized-tells w h e =
     let p = both (leb 1 w && leb w mostPings) (leb 1 h && leb h mostBins) e in
     let q = both (leb 1 w) (leb w mostPings) (p .0) in
     let r = both (leb 1 h) (leb h mostBins) (p .1) in
-    record { some-pings = leb-true 1 w (q .0); few-pings = leb-true w mostPings (q .1); some-bins = leb-true 1 h (r .0); few-bins = leb-true h mostBins (r .1) }
+    record {
+      some-pings = leb-true 1 w (q .0);
+      few-pings = leb-true w mostPings (q .1);
+      some-bins = leb-true 1 h (r .0);
+      few-bins = leb-true h mostBins (r .1);
+    }

@@ -1,4 +1,5 @@
--- Document 01, "Pictures and elements": the sizes of a frame, and the bytes that a picture takes at each depth.
+-- Document 01, "Pictures and elements":
+-- the sizes of a frame, and the bytes that a picture takes at each depth.
 use Prim.Native.Nat.{ℕ, _+_, _-_, _*_, _/_, _≤_}
 use mathlib.Core.Bool.{Bool, _&&_}
 use lib.Dec.{leb}

@@ -1,4 +1,3 @@
 pub mod Frame
 pub mod Points
 pub mod Bytes
-pub mod Copy

@@ -1,4 +1,5 @@
--- The points of a picture in its bytes, at either depth: where a point lies, its value, and the bytes with another value there.
+-- The points of a picture in its bytes, at either depth:
+-- where a point lies, its value, and the bytes with another value there.
 -- A point is a column x, its ping, and a row y, its bin.
 use Prim.Native.Nat.{ℕ, _+_, _-_, _*_, _/_, _%_, _^_, _≤_, _<_}
 use mathlib.Core.Bool.{cond}
@@ -11,7 +12,8 @@ use Rattle.picture.specs.declared.Depth.{Depth}
 use Rattle.picture.specs.declared.Depth.the-variants.{OneBit, EightBit}
 use Rattle.picture.specs.Frame.{mostPings, rowBytes}
 
--- the byte of column x within its row, and the place of its bit there: the first ping is the highest bit of the first byte
+-- the byte of column x within its row, and the place of its bit there:
+-- the first ping is the highest bit of the first byte
 abbrev pub columnByte : Depth → ℕ → ℕ
 columnByte OneBit x = x / 8
 columnByte EightBit x = x

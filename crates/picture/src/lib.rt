@@ -1,13 +1,13 @@
-// The floor that every picture stands on: pings and bins kept apart by kind, sizes, points in packed rows by shifts and masks.
+// The floor that every picture stands on:
+// pings and bins kept apart by kind, sizes, points in packed rows by shifts and masks.
 ghost use mathlib.Core.Path.{_≡_};
 ghost use mathlib.Core.Bool.{cond};
 ghost use Prim.Native.Nat.{_+_, _-_, _*_, _%_, _^_, _≤_, _<_};
 ghost use lib.ListN.{length};
-ghost use Rattle.basics.specs.Lists.{firsts};
 ghost use Rattle.picture.specs.Frame.{mostPings, sizedFrame, rowBytes, pictureBytes, spareBits, Holds};
-ghost use Rattle.picture.specs.Points.{columnByte, place, byteAt, valueIn, valueAt, putIn, putAt, Within};
-ghost use Rattle.picture.specs.Bytes.{faced, written, lastsClear, paddingClear};
-ghost use Rattle.picture.specs.Copy.{overOf, keptByte, spareAt, keptAt, keptRows};
+ghost use Rattle.picture.specs.Points.{columnByte, place, byteAt, valueIn};
+ghost use Rattle.picture.specs.Points.{valueAt, putIn, putAt, Within};
+ghost use Rattle.picture.specs.Bytes.{lastsClear, paddingClear};
 
 // The limits: pings across, bins down.
 pub const MOST_PINGS: usize = 1024;
@@ -151,7 +151,8 @@ pub fn put(depth: Depth, t: &mut [u8], w: usize, p: Point, v: u8)
     t[at] = put_in(depth, t[at], p.ping, v);
 }
 
-fn spare_bits(depth: Depth, w: usize) -> usize
+// The unused low bits of a row's last byte.
+pub fn spare_bits(depth: Depth, w: usize) -> usize
     requires { ⌜ w ≤ mostPings ⌝ }
     ensures { λ r. ⌜ r ≡ spareBits depth w ⌝ }
 {
@@ -185,71 +186,4 @@ pub fn padding_clear(depth: Depth, s: &[u8], w: usize, h: usize) -> bool
     let n = row_bytes(depth, w);
     let u = spare_bits(depth, w);
     lasts_clear(s, n, 1 << u, h)
-}
-
-fn is_over(face: Face) -> bool
-    ensures { λ r. ⌜ r ≡ overOf face ⌝ }
-{
-    match face {
-        Face::AsIs => false,
-        Face::TurnedOver => true,
-    }
-}
-
-// A byte as it is or turned over, its u low bits 0.
-fn kept(over: bool, b: u8, u: usize) -> u8
-    requires { ⌜ u < 8 ⌝ }
-    ensures { λ r. ⌜ r ≡ keptByte over b u ⌝ }
-{
-    if over {
-        return ((!b) >> u) << u;
-    }
-    (b >> u) << u
-}
-
-// The spare bits of byte i of a row: only the last byte has any.
-fn spare_at(i: usize, n: usize, u: usize) -> usize
-    requires { ⌜ i < n ⌝ }
-    ensures { λ r. ⌜ r ≡ spareAt i n u ⌝ }
-{
-    if i + 1 == n { u } else { 0 }
-}
-
-// One row of n bytes, from the place `at` on: the padding goes to 0, turned over or not.
-fn copy_row(over: bool, s: &[u8], at: usize, t: &mut [u8], n: usize, u: usize)
-    requires { ⌜ (u < 8) × ((length (now t) ≡ n) × (at + n ≤ length (now s))) ⌝ }
-    ensures { λ _. ⌜ now (t .exit) ≡ firsts (keptAt over (now (s .entry)) at n u) n ⌝ }
-{
-    let mut i = 0;
-    while i < n {
-        let v = spare_at(i, n, u);
-        t[i] = kept(over, s[at + i], v);
-        i += 1;
-    }
-}
-
-// h rows; what lies past them in t stays.
-fn copy_rows(over: bool, s: &[u8], t: &mut [u8], n: usize, u: usize, h: usize)
-    requires { ⌜ (u < 8) × ((h * n ≤ length (now t)) × (h * n ≤ length (now s))) ⌝ }
-    ensures { λ _. ⌜ now (t .exit) ≡ keptRows over (now (s .entry)) n u h (now (t .entry)) ⌝ }
-{
-    let mut y = 0;
-    while y < h {
-        let a = y * n;
-        let z = a + n;
-        copy_row(over, s, a, &mut t[a..z], n, u);
-        y += 1;
-    }
-}
-
-// A whole picture written row by row, padding 0, the further bytes of t kept.
-pub fn copy_picture(depth: Depth, face: Face, s: &[u8], t: &mut [u8], w: usize, h: usize)
-    requires { ⌜ Holds depth (length (now s)) w h ⌝ }
-    requires { ⌜ Holds depth (length (now t)) w h ⌝ }
-    ensures { λ _. ⌜ now (t .exit) ≡ written depth (faced depth face (now (s .entry)) w) w h (now (t .entry)) ⌝ }
-{
-    let n = row_bytes(depth, w);
-    let u = spare_bits(depth, w);
-    let over = is_over(face);
-    copy_rows(over, s, t, n, u, h);
 }

@@ -1,5 +1,5 @@
 pub mod Loops
-pub mod Predicates
-pub mod Steps
+pub mod Walked
+pub mod Bits
 pub mod Meaning
 pub mod Settled

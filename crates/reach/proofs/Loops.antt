@@ -1,4 +1,5 @@
--- The loops over the columns and rows of a link, the rows of a board, and the links: nothing done, one more, all.
+-- The loops over the columns and rows of a link,
+-- the rows of a board, and the links: nothing done, one more, all.
 use Prim.Native.Nat.{ℕ, zero, suc, _+_, _-_, _*_, _/_, _%_, _^_, _≤_, _<_}
 use mathlib.Core.Path.{_≡_, refl, sym, ap, ap₂, _∙_, subst}
 use mathlib.Core.Bool.{Bool, true, false, cond}
@@ -12,6 +13,7 @@ use lib.Pow.{pow-lt, pow-pos}
 use lib.Bits.{bitOr, bitAnd, or-zero-r}
 use lib.Dec.{eqb}
 use borrow.Author.Tests.{le-leb, lt-leb, lt-ltb, le-ltb}
+use Rattle.answer.specs.Answer.{centre}
 use Rattle.basics.proofs.Flags.{low-on}
 use Rattle.reach.specs.declared.Offset.{Offset}
 use Rattle.basics.specs.Lists.{firsts}
@@ -23,26 +25,31 @@ use Rattle.morphology.specs.Check.{backX, backY, total}
 use Rattle.reach.specs.declared.Cut.{Cut}
 use Rattle.reach.specs.declared.Bounds.{Bounds}
 use Rattle.reach.specs.declared.Sum.{Sum}
-use Rattle.reach.specs.Words.{sums, movedOf, spreadOf, lineOf, rowOf, maskOf, keptOf, stepOf, Cutting}
-use Rattle.reach.specs.Boards.{shapesOf, cutOf, startOf, onwardOf, wordsFrom, boardOf, holdsOf, Small}
+use Rattle.reach.specs.Steps.Words.{sums, movedOf, spreadOf, lineOf}
+use Rattle.reach.specs.Steps.Words.{rowOf, maskOf, cutRow, stepOf, Cutting}
+use Rattle.reach.specs.Steps.Links.{shapesOf, noLink}
+use Rattle.reach.specs.Steps.Boards.{cutOf, startOf, onwardOf, wordsFrom, boardOf, holdsOf, Small}
 
 -- ---- columns
 pub spread-none : (acc line cells : ℕ) → acc ≡ spreadOf acc line cells 0
 unfolding spreadOf
 spread-none acc line cells = refl
 
-pub spread-more : (acc line cells c a m : ℕ) → a ≡ spreadOf acc line cells c → m ≡ movedOf line cells c → bitOr a m ≡ spreadOf acc line cells (c + 1)
+pub spread-more : (acc line cells c a m : ℕ) → a ≡ spreadOf acc line cells c → m ≡ movedOf line cells c
+    → bitOr a m ≡ spreadOf acc line cells (c + 1)
 unfolding spreadOf
 spread-more acc line cells c a m e e' = ap₂ bitOr e e' ∙ ap (λ n. spreadOf acc line cells n) (sym (add-one c))
 
-pub spread-all : (acc line cells c w a : ℕ) → a ≡ spreadOf acc line cells c → c ≡ w → a ≡ spreadOf acc line cells w
+pub spread-all : (acc line cells c w a : ℕ) → a ≡ spreadOf acc line cells c → c ≡ w
+    → a ≡ spreadOf acc line cells w
 spread-all acc line cells c w a e n = e ∙ ap (λ k. spreadOf acc line cells k) n
 
 -- an empty row word adds nothing
 pub spread-nothing : (acc cells n : ℕ) → acc ≡ spreadOf acc 0 cells n
 unfolding spreadOf movedOf
 spread-nothing acc cells zero = refl
-spread-nothing acc cells (suc n) = sym (ap₂ bitOr (sym (spread-nothing acc cells n)) (by (cellOn cells n)) ∙ or-zero-r acc)
+spread-nothing acc cells (suc n) =
+    sym (ap₂ bitOr (sym (spread-nothing acc cells n)) (by (cellOn cells n)) ∙ or-zero-r acc)
   where
     by : (t : Bool) → cond t (0 * 2 ^ n % 2 ^ 64) 0 ≡ 0
     by true = ap (λ x. x % 2 ^ 64) (zero-mul (2 ^ n))
@@ -56,13 +63,16 @@ pub row-none : (board cells : List ℕ) (w y : ℕ) → 0 ≡ rowOf board cells 
 unfolding rowOf
 row-none board cells w y = refl
 
-pub row-more : (board cells : List ℕ) (w y r a line v : ℕ) → a ≡ rowOf board cells w y r → line ≡ lineOf board y r
+pub row-more : (board cells : List ℕ) (w y r a line v : ℕ) → a ≡ rowOf board cells w y r
+    → line ≡ lineOf board y r
     → v ≡ spreadOf a line (getD cells r 0) w → v ≡ rowOf board cells w y (r + 1)
 unfolding rowOf
 row-more board cells w y r a line v e e' e'' =
-    e'' ∙ ap₂ (λ s t. spreadOf s t (getD cells r 0) w) e e' ∙ ap (λ n. rowOf board cells w y n) (sym (add-one r))
+    e'' ∙ ap₂ (λ s t. spreadOf s t (getD cells r 0) w) e e'
+    ∙ ap (λ n. rowOf board cells w y n) (sym (add-one r))
 
-pub row-all : (board cells : List ℕ) (w y r h a : ℕ) → a ≡ rowOf board cells w y r → r ≡ h → a ≡ rowOf board cells w y h
+pub row-all : (board cells : List ℕ) (w y r h a : ℕ) → a ≡ rowOf board cells w y r → r ≡ h
+    → a ≡ rowOf board cells w y h
 row-all board cells w y r h a e n = e ∙ ap (λ k. rowOf board cells w y k) n
 
 -- ---- the mask: `1 << n`
@@ -72,32 +82,36 @@ shift-one n h = ap (λ x. x % 2 ^ 64) (one-mul (2 ^ n)) ∙ mod-eq-of-lt (pow-lt
 pub shift-one-pos : (n : ℕ) → n ≤ sums → 1 ≤ 1 * 2 ^ n % 2 ^ 64
 shift-one-pos n h = subst (λ x. 1 ≤ x) (sym (shift-one n h)) (pow-pos n)
 
-pub mask-is : (left right : ℕ) → right ≤ sums → (1 * 2 ^ right % 2 ^ 64 - 1) / 2 ^ left * 2 ^ left % 2 ^ 64 ≡ maskOf left right
+pub mask-is : (left right : ℕ) → right ≤ sums
+    → (1 * 2 ^ right % 2 ^ 64 - 1) / 2 ^ left * 2 ^ left % 2 ^ 64 ≡ maskOf left right
 unfolding maskOf
 mask-is left right h = ap (λ n. (n - 1) / 2 ^ left * 2 ^ left % 2 ^ 64) (shift-one right h)
 
 -- ---- the rows of a board
--- a row above the kept ones, one below them, and one of them
+-- a row above the cut, one below it, and one of its rows
 module _ (board cells : List ℕ) (w h m : ℕ) (cut : Cut) (y : ℕ) where
-  pub above-kept : y < cut .top → 0 ≡ keptOf board cells w h m cut y
-  unfolding keptOf
-  above-kept l = simp (lt-leb (cut .top) y l)
+  pub above-cut : y < cut .top → 0 ≡ cutRow board cells w h m cut y
+  unfolding cutRow
+  above-cut l = simp (lt-leb (cut .top) y l)
 
   module _ (t : cut .top ≤ y) where
-    pub below-kept : cut .bottom ≤ y → 0 ≡ keptOf board cells w h m cut y
-    unfolding keptOf
-    below-kept l = simp (le-leb (cut .top) y t, le-ltb y (cut .bottom) l)
+    pub below-cut : cut .bottom ≤ y → 0 ≡ cutRow board cells w h m cut y
+    unfolding cutRow
+    below-cut l = simp (le-leb (cut .top) y t, le-ltb y (cut .bottom) l)
 
-    pub kept-there : (v : ℕ) → y < cut .bottom → v ≡ rowOf board cells w y h → bitAnd v m ≡ keptOf board cells w h m cut y
-    unfolding keptOf
-    kept-there v l e = simp (e, le-leb (cut .top) y t, lt-ltb y (cut .bottom) l)
+    pub in-cut : (v : ℕ) → y < cut .bottom → v ≡ rowOf board cells w y h
+        → bitAnd v m ≡ cutRow board cells w h m cut y
+    unfolding cutRow
+    in-cut v l e = simp (e, le-leb (cut .top) y t, lt-ltb y (cut .bottom) l)
 
-pub step-all : (board cells : List ℕ) (w h m y : ℕ) (cut : Cut) (l : List ℕ) → m ≡ maskOf (cut .left) (cut .right) → y ≡ sums
-    → l ≡ firsts (keptOf board cells w h m cut) y ++ replicate (sums - y) 0 → l ≡ stepOf board cells w h cut
+pub step-all : (board cells : List ℕ) (w h m y : ℕ) (cut : Cut) (l : List ℕ)
+    → m ≡ maskOf (cut .left) (cut .right) → y ≡ sums
+    → l ≡ firsts (cutRow board cells w h m cut) y ++ replicate (sums - y) 0 → l ≡ stepOf board cells w h cut
 unfolding stepOf
 step-all board cells w h m y cut l e q so =
-    so ∙ ap₂ (λ a b. firsts (keptOf board cells w h m cut) a ++ replicate b 0) q (none y q) ∙ append-nil (firsts (keptOf board cells w h m cut) sums)
-    ∙ ap (λ m. firsts (keptOf board cells w h m cut) sums) e
+    so ∙ ap₂ (λ a b. firsts (cutRow board cells w h m cut) a ++ replicate b 0) q (none y q)
+    ∙ append-nil (firsts (cutRow board cells w h m cut) sums)
+    ∙ ap (λ m. firsts (cutRow board cells w h m cut) sums) e
   where
     none : (y : ℕ) → y ≡ sums → sums - y ≡ 0
     none y q = omega arith
@@ -108,69 +122,89 @@ cut-in o m cut e = subst Cutting (sym e) (record { left-high = omega arith; righ
 
 -- ---- the offset of a place of the board
 module _ (words : List ℕ) (o : Sum) (e : Offset) where
-  pub off-left : e .x + o .column < 128 → false ≡ holdsOf words o e
+  pub off-left : e .x + o .column < centre → false ≡ holdsOf words o e
   unfolding holdsOf
-  off-left h = simp (lt-leb 128 (e .x + o .column) h)
+  off-left h = simp (lt-leb centre (e .x + o .column) h)
 
-  module _ (l : 128 ≤ e .x + o .column) where
-    pub off-top : e .y + o .row < 128 → false ≡ holdsOf words o e
+  module _ (l : centre ≤ e .x + o .column) where
+    pub off-top : e .y + o .row < centre → false ≡ holdsOf words o e
     unfolding holdsOf
-    off-top h = simp (le-leb 128 (e .x + o .column) l, lt-leb 128 (e .y + o .row) h)
+    off-top h = simp (le-leb centre (e .x + o .column) l, lt-leb centre (e .y + o .row) h)
 
-    module _ (t : 128 ≤ e .y + o .row) where
-      pub off-right : sums ≤ e .x + o .column - 128 → false ≡ holdsOf words o e
+    module _ (t : centre ≤ e .y + o .row) where
+      pub off-right : sums ≤ e .x + o .column - centre → false ≡ holdsOf words o e
       unfolding holdsOf
-      off-right h = simp (le-leb 128 (e .x + o .column) l, le-leb 128 (e .y + o .row) t, le-ltb (e .x + o .column - 128) sums h)
+      off-right h = simp (
+        le-leb centre (e .x + o .column) l,
+        le-leb centre (e .y + o .row) t,
+        le-ltb (e .x + o .column - centre) sums h,
+      )
 
-      module _ (r : e .x + o .column - 128 < sums) where
-        pub off-bottom : sums ≤ e .y + o .row - 128 → false ≡ holdsOf words o e
+      module _ (r : e .x + o .column - centre < sums) where
+        pub off-bottom : sums ≤ e .y + o .row - centre → false ≡ holdsOf words o e
         unfolding holdsOf
         off-bottom h =
-            simp (le-leb 128 (e .x + o .column) l, le-leb 128 (e .y + o .row) t, lt-ltb (e .x + o .column - 128) sums r, le-ltb (e .y + o .row - 128) sums h)
+            simp (
+              le-leb centre (e .x + o .column) l,
+              le-leb centre (e .y + o .row) t,
+              lt-ltb (e .x + o .column - centre) sums r,
+              le-ltb (e .y + o .row - centre) sums h,
+            )
 
-        pub on-board : e .y + o .row - 128 < sums → eqb (bitAnd (getD words (e .y + o .row - 128) 0 / 2 ^ (e .x + o .column - 128)) 1) 1 ≡ holdsOf words o e
+        pub on-board : e .y + o .row - centre < sums
+            → eqb (bitAnd (getD words (e .y + o .row - centre) 0 / 2 ^ (e .x + o .column - centre)) 1) 1
+            ≡ holdsOf words o e
         unfolding holdsOf
         on-board h =
-            simp (le-leb 128 (e .x + o .column) l, le-leb 128 (e .y + o .row) t, lt-ltb (e .x + o .column - 128) sums r, lt-ltb (e .y + o .row - 128) sums h)
-            (low-on (getD words (e .y + o .row - 128) 0 / 2 ^ (e .x + o .column - 128)))
+            simp (
+              le-leb centre (e .x + o .column) l,
+              le-leb centre (e .y + o .row) t,
+              lt-ltb (e .x + o .column - centre) sums r,
+              lt-ltb (e .y + o .row - centre) sums h,
+            )
+            (low-on (getD words (e .y + o .row - centre) 0 / 2 ^ (e .x + o .column - centre)))
 
 -- ---- the links
 
--- what stands for an element where there is none
-abbrev pub noLink : Element
-noLink = record { w = 0; h = 0; origin = record { ping = record { 0 = 0 }; bin = record { 0 = 0 } }; rows = [] }
-
 -- the origins of links of at most 8 by 8 sum to little
-pub origins-low : (es : List Element) → AllFit mostLinkCells (shapesOf es) → (backX (shapesOf es) ≤ 7 * length es) × (backY (shapesOf es) ≤ 7 * length es)
+pub origins-low : (es : List Element) → AllFit mostLinkCells (shapesOf es)
+    → (backX (shapesOf es) ≤ 7 * length es) × (backY (shapesOf es) ≤ 7 * length es)
 unfolding total shapeOf
 origins-low [] f = (omega arith, omega arith)
 origins-low (e ∷ es) f = let h = origins-low es (f .1) in let g = f .0 in (omega arith, omega arith)
 
-pub fit-at : (es : List Element) (i : ℕ) → i < length es → AllFit mostLinkCells (shapesOf es) → Fits mostLinkCells (shapeOf (getD es i noLink))
+pub fit-at : (es : List Element) (i : ℕ) → i < length es → AllFit mostLinkCells (shapesOf es)
+    → Fits mostLinkCells (shapeOf (getD es i noLink))
 fit-at [] i l f = absurd (not-suc-le-zero l)
 fit-at (e ∷ es) zero l f = f .0
 fit-at (e ∷ es) (suc i) l f = fit-at es i (le-of-suc-le-suc l) (f .1)
 
--- the links from link i on give the rest of the board: with the words and the origins so far they lead to the whole
+-- the links from link i on give the rest of the board:
+-- with the words and the origins so far they lead to the whole
 pub record Rest (m : Bounds) (es : List Element) (words : List ℕ) (column row i : ℕ) : Type 0 where
   pub to-words : wordsFrom m column row (drop i es) words ≡ wordsFrom m 0 0 es startOf
   pub to-column : column + backX (shapesOf (drop i es)) ≡ backX (shapesOf es)
   pub to-row : row + backY (shapesOf (drop i es)) ≡ backY (shapesOf es)
 
 pub rest-start : (m : Bounds) (es : List Element) (words : List ℕ) → words ≡ startOf → Rest m es words 0 0 0
-rest-start m es words e = record { to-words = ap (wordsFrom m 0 0 es) e; to-column = zero-plus _; to-row = zero-plus _ }
+rest-start m es words e =
+    record { to-words = ap (wordsFrom m 0 0 es) e; to-column = zero-plus _; to-row = zero-plus _ }
   where
     zero-plus : (n : ℕ) → 0 + n ≡ n
     zero-plus n = omega arith
 
-pub rest-all : (m : Bounds) (es : List Element) (words : List ℕ) (column row i : ℕ) → Rest m es words column row i → length es ≤ i
+pub rest-all : (m : Bounds) (es : List Element) (words : List ℕ) (column row i : ℕ)
+    → Rest m es words column row i → length es ≤ i
     → record { words = words; origin = record { column = column; row = row } } ≡ boardOf m es
 unfolding boardOf wordsFrom total
 rest-all m es words column row i r l =
     let d : drop i es ≡ [] = drop-of-length-le es l in
-    let w : words ≡ wordsFrom m 0 0 es startOf = sym (ap (λ t. wordsFrom m column row t words) d) ∙ r .to-words in
-    let x : column ≡ backX (shapesOf es) = sym (plus-zero column) ∙ sym (ap (λ t. column + backX (shapesOf t)) d) ∙ r .to-column in
-    let y : row ≡ backY (shapesOf es) = sym (plus-zero row) ∙ sym (ap (λ t. row + backY (shapesOf t)) d) ∙ r .to-row in
+    let w : words ≡ wordsFrom m 0 0 es startOf =
+    sym (ap (λ t. wordsFrom m column row t words) d) ∙ r .to-words in
+    let x : column ≡ backX (shapesOf es) =
+    sym (plus-zero column) ∙ sym (ap (λ t. column + backX (shapesOf t)) d) ∙ r .to-column in
+    let y : row ≡ backY (shapesOf es) =
+    sym (plus-zero row) ∙ sym (ap (λ t. row + backY (shapesOf t)) d) ∙ r .to-row in
     λ j. record { words = w j; origin = record { column = x j; row = y j } }
   where
     plus-zero : (n : ℕ) → n + 0 ≡ n
@@ -188,20 +222,31 @@ module _ (links : List Element) (k : ℕ) (i : ℕ) (few : k ≤ length links) (
       drop-cons (take k links) i noLink (subst (λ n. i < n) (sym long) more)
       ∙ ap₂ (λ e n. e ∷ drop n (take k links)) link-is (sym (add-one i))
 
-  fit-here : AllFit mostLinkCells (shapesOf (take k links)) → Fits mostLinkCells (shapeOf (getD links i noLink))
-  fit-here f = subst (λ e. Fits mostLinkCells (shapeOf e)) link-is (fit-at (take k links) i (subst (λ n. i < n) (sym long) more) f)
+  fit-here : AllFit mostLinkCells (shapesOf (take k links))
+      → Fits mostLinkCells (shapeOf (getD links i noLink))
+  fit-here f =
+      subst (λ e. Fits mostLinkCells (shapeOf e)) link-is
+      (fit-at (take k links) i (subst (λ n. i < n) (sym long) more) f)
 
-  pub narrow-here : AllFit mostLinkCells (shapesOf (take k links)) → (getD links i noLink .w ≤ mostCells) × (getD links i noLink .h ≤ mostCells)
+  pub narrow-here : AllFit mostLinkCells (shapesOf (take k links))
+      → (getD links i noLink .outline .w ≤ mostCells) × (getD links i noLink .outline .h ≤ mostCells)
   unfolding shapeOf
   narrow-here f = let g = fit-here f in (omega arith, omega arith)
 
-  module _ (m : Bounds) (words next : List ℕ) (column row : ℕ) (r : Rest m (take k links) words column row i) where
-    pub rest-more : next ≡ onwardOf words (getD links i noLink) (record { column = column + getD links i noLink .origin .ping .0; row = row + getD links i noLink .origin .bin .0 }) m
-        → Rest m (take k links) next (column + getD links i noLink .origin .ping .0) (row + getD links i noLink .origin .bin .0) (i + 1)
+  module _ (m : Bounds) (words next : List ℕ) (column row : ℕ)
+      (r : Rest m (take k links) words column row i) where
+    pub rest-more : next ≡ onwardOf words (getD links i noLink) (record {
+      column = column + getD links i noLink .outline .origin .ping .0;
+      row = row + getD links i noLink .outline .origin .bin .0;
+    }) m
+        → Rest m (take k links) next (column + getD links i noLink .outline .origin .ping .0)
+        (row + getD links i noLink .outline .origin .bin .0) (i + 1)
     unfolding wordsFrom total shapeOf
     rest-more e =
         record {
-          to-words = ap (wordsFrom m _ _ (drop (i + 1) (take k links))) e ∙ sym (ap (λ t. wordsFrom m column row t words) rest-is) ∙ r .to-words;
+          to-words =
+              ap (wordsFrom m _ _ (drop (i + 1) (take k links))) e
+              ∙ sym (ap (λ t. wordsFrom m column row t words) rest-is) ∙ r .to-words;
           to-column = further column _ _ ∙ sym (ap (λ t. column + backX (shapesOf t)) rest-is) ∙ r .to-column;
           to-row = further row _ _ ∙ sym (ap (λ t. row + backY (shapesOf t)) rest-is) ∙ r .to-row;
         }
@@ -211,10 +256,16 @@ module _ (links : List Element) (k : ℕ) (i : ℕ) (few : k ≤ length links) (
 
     -- so far the origins sum to no more than all of them
     pub rest-small : AllFit mostLinkCells (shapesOf (take k links)) → k ≤ mostLinks
-        → Small (record { column = column + getD links i noLink .origin .ping .0; row = row + getD links i noLink .origin .bin .0 })
+        → Small (record {
+          column = column + getD links i noLink .outline .origin .ping .0;
+          row = row + getD links i noLink .outline .origin .bin .0;
+        })
     unfolding total shapeOf
     rest-small f l =
         let b = origins-low (take k links) f in
         let x = ap (λ t. column + backX (shapesOf t)) rest-is in
         let y = ap (λ t. row + backY (shapesOf t)) rest-is in
-        record { column-low = omega (arith, long, x, y, r .to-column); row-low = omega (arith, long, x, y, r .to-row) }
+        record {
+          column-low = omega (arith, long, x, y, r .to-column);
+          row-low = omega (arith, long, x, y, r .to-row);
+        }

@@ -1,15 +1,20 @@
 // Which sums of cells a chain of links reaches inside a box of offsets, on boards of row words.
+use answer::CENTRE;
 use element::Element;
 use element::MOST_CELLS;
+use element::RowWord;
 use picture::Bin;
 use picture::Ping;
 ghost use mathlib.Core.Path.{_≡_};
-ghost use Prim.Native.Nat.{_≤_, _<_, min, max};
+ghost use Prim.Native.Nat.{_≤_, _<_};
 ghost use lib.ListN.{take};
 ghost use Rattle.element.specs.Descriptor.{mostCells};
 ghost use Rattle.morphology.specs.Check.{pathTest};
-ghost use Rattle.reach.specs.Words.{sums, movedOf, spreadOf, lineOf, rowOf, maskOf, keptOf, stepOf, Cutting};
-ghost use Rattle.reach.specs.Boards.{shapesOf, placeOf, heldOf, cutOf, startOf, onwardOf, boardOf, everywhereOf, betweenOf, holdsOf, InBytes, Small, Linked};
+ghost use Rattle.reach.specs.Steps.Words.{sums, movedOf, spreadOf, lineOf};
+ghost use Rattle.reach.specs.Steps.Words.{rowOf, maskOf, cutRow, stepOf, Cutting};
+ghost use Rattle.reach.specs.Steps.Links.{shapesOf, placeOf, OneByte, Linked};
+ghost use Rattle.reach.specs.Steps.Boards.{clipped, cutOf, startOf, onwardOf, boardOf};
+ghost use Rattle.reach.specs.Steps.Boards.{everywhereOf, betweenOf, holdsOf, InBytes, Small};
 
 // The limits: cells across and down of a link, and links of a chain.
 pub const MOST_LINK_CELLS: usize = 8;
@@ -18,9 +23,6 @@ pub const MOST_LINKS: usize = 5;
 
 // A sum takes a column and a row from each link: how many sums of columns there are, and so of rows.
 pub const SUMS: usize = MOST_LINKS * (MOST_LINK_CELLS - 1) + 1;
-
-// An offset is held with 128 added to each coordinate, so that no number is negative: where 0 stands.
-pub const CENTRE: usize = 128;
 
 // A sum of columns and a sum of rows.
 pub struct Sum {
@@ -42,7 +44,8 @@ struct Bounds {
     bottom: usize,
 }
 
-// The sums of columns and rows that are kept: from left to before right, from top to before bottom.
+// The sums of columns and rows whose offsets lie in a box:
+// from left to before right, from top to before bottom.
 struct Cut {
     left: usize,
     right: usize,
@@ -50,14 +53,15 @@ struct Cut {
     bottom: usize,
 }
 
-// The sums reached, bit X of word Y for the sums X and Y; and the sum of the links' origins, which stands for the offset (0, 0).
+// The sums reached, bit X of word Y for the sums X and Y;
+// and the sum of the links' origins, which stands for the offset (0, 0).
 pub struct Board {
     pub words: [u64; SUMS],
     pub origin: Sum,
 }
 
 // A row word moved by c columns, where the cell of column c is set.
-fn moved(line: u64, cells: u32, column: Ping) -> u64
+fn moved(line: u64, cells: RowWord, column: Ping) -> u64
     requires { ⌜ column .0 < mostCells ⌝ }
     ensures { λ r. ⌜ r ≡ movedOf line cells (column .0) ⌝ }
 {
@@ -69,7 +73,7 @@ fn moved(line: u64, cells: u32, column: Ping) -> u64
 }
 
 // What the cells of one row of a link add to acc.
-fn spread(acc: u64, line: u64, cells: u32, w: usize) -> u64
+fn spread(acc: u64, line: u64, cells: RowWord, w: usize) -> u64
     requires { ⌜ w ≤ mostCells ⌝ }
     ensures { λ r. ⌜ r ≡ spreadOf acc line cells w ⌝ }
 {
@@ -83,7 +87,7 @@ fn spread(acc: u64, line: u64, cells: u32, w: usize) -> u64
 }
 
 // The same, with no work for an empty row word.
-fn spread_some(acc: u64, line: u64, cells: u32, w: usize) -> u64
+fn spread_some(acc: u64, line: u64, cells: RowWord, w: usize) -> u64
     requires { ⌜ w ≤ mostCells ⌝ }
     ensures { λ r. ⌜ r ≡ spreadOf acc line cells w ⌝ }
 {
@@ -108,7 +112,7 @@ fn line_back(board: &[u64; SUMS], y: Bin, r: Bin) -> u64
 }
 
 // What a whole link gives in row y.
-fn row(board: &[u64; SUMS], cells: &[u32; MOST_CELLS], w: usize, h: usize, y: Bin) -> u64
+fn row(board: &[u64; SUMS], cells: &[RowWord; MOST_CELLS], w: usize, h: usize, y: Bin) -> u64
     requires { ⌜ (w ≤ mostCells) × ((h ≤ mostCells) × (y .0 < sums)) ⌝ }
     ensures { λ v. ⌜ v ≡ rowOf (now (board .entry)) (now (cells .entry)) w (y .0) h ⌝ }
 {
@@ -122,7 +126,7 @@ fn row(board: &[u64; SUMS], cells: &[u32; MOST_CELLS], w: usize, h: usize, y: Bi
     a
 }
 
-// The kept columns.
+// The columns inside the cut.
 fn mask(cut: Cut) -> u64
     requires { ⌜ Cutting cut ⌝ }
     ensures { λ r. ⌜ r ≡ maskOf (cut .left) (cut .right) ⌝ }
@@ -131,10 +135,10 @@ fn mask(cut: Cut) -> u64
     (((one << cut.right) - 1) >> cut.left) << cut.left
 }
 
-// Row y of the next board, its kept columns: nothing outside the kept rows.
-fn kept_row(
+// Row y of the next board, inside the cut: nothing outside its rows.
+fn cut_row(
     board: &[u64; SUMS],
-    cells: &[u32; MOST_CELLS],
+    cells: &[RowWord; MOST_CELLS],
     w: usize,
     h: usize,
     m: u64,
@@ -142,7 +146,7 @@ fn kept_row(
     y: Bin,
 ) -> u64
     requires { ⌜ (w ≤ mostCells) × ((h ≤ mostCells) × (y .0 < sums)) ⌝ }
-    ensures { λ v. ⌜ v ≡ keptOf (now (board .entry)) (now (cells .entry)) w h m cut (y .0) ⌝ }
+    ensures { λ v. ⌜ v ≡ cutRow (now (board .entry)) (now (cells .entry)) w h m cut (y .0) ⌝ }
 {
     let at = y.0 as usize;
     if at < cut.top {
@@ -155,7 +159,13 @@ fn kept_row(
 }
 
 // The board after one more link.
-fn step(board: &[u64; SUMS], cells: &[u32; MOST_CELLS], w: usize, h: usize, cut: Cut) -> [u64; SUMS]
+fn step(
+    board: &[u64; SUMS],
+    cells: &[RowWord; MOST_CELLS],
+    w: usize,
+    h: usize,
+    cut: Cut,
+) -> [u64; SUMS]
     requires { ⌜ (w ≤ mostCells) × ((h ≤ mostCells) × Cutting cut) ⌝ }
     ensures { λ b. ⌜ b ≡ stepOf (now (board .entry)) (now (cells .entry)) w h cut ⌝ }
 {
@@ -163,15 +173,15 @@ fn step(board: &[u64; SUMS], cells: &[u32; MOST_CELLS], w: usize, h: usize, cut:
     let mut next = [0u64; SUMS];
     let mut y = 0;
     while y < SUMS {
-        next[y] = kept_row(board, cells, w, h, m, cut, Bin(y as u16));
+        next[y] = cut_row(board, cells, w, h, m, cut, Bin(y as u16));
         y += 1;
     }
     next
 }
 
 // CENTRE less, within the board.
-fn held(s: usize) -> usize
-    ensures { λ r. ⌜ r ≡ heldOf s ⌝ }
+fn clipped(s: usize) -> usize
+    ensures { λ r. ⌜ r ≡ clipped s ⌝ }
 {
     if s < CENTRE {
         return 0;
@@ -186,10 +196,10 @@ fn cut_by(o: Sum, m: Bounds) -> Cut
     ensures { λ r. ⌜ r ≡ cutOf o m ⌝ }
 {
     Cut {
-        left: held(o.column + m.left),
-        right: held(o.column + m.right + 1),
-        top: held(o.row + m.top),
-        bottom: held(o.row + m.bottom + 1),
+        left: clipped(o.column + m.left),
+        right: clipped(o.column + m.right + 1),
+        top: clipped(o.row + m.top),
+        bottom: clipped(o.row + m.bottom + 1),
     }
 }
 
@@ -204,14 +214,15 @@ fn start() -> [u64; SUMS]
 
 // The board after the link e, whose origin brings the sum of origins to o.
 fn onward(board: &[u64; SUMS], e: Element, o: Sum, m: Bounds) -> [u64; SUMS]
-    requires { ⌜ (e .w ≤ mostCells) × (e .h ≤ mostCells) ⌝ }
+    requires { ⌜ (e .outline .w ≤ mostCells) × (e .outline .h ≤ mostCells) ⌝ }
     requires { ⌜ InBytes m ⌝ }
     requires { ⌜ Small o ⌝ }
     ensures { λ b. ⌜ b ≡ onwardOf (now (board .entry)) e o m ⌝ }
 {
     let cells = e.rows;
+    let outline = e.outline;
     let cut = cut_by(o, m);
-    step(board, &cells, e.w, e.h, cut)
+    step(board, &cells, outline.w, outline.h, cut)
 }
 
 // The board after the first k links.
@@ -226,7 +237,8 @@ fn reach(links: [Element; MOST_LINKS], k: usize, m: Bounds) -> Board
     let mut i = 0;
     while i < k {
         let e = links[i];
-        let o = e.origin;
+        let outline = e.outline;
+        let o = outline.origin;
         let p = o.ping;
         let b = o.bin;
         column = column + p.0 as usize;
@@ -252,34 +264,22 @@ fn everywhere() -> Bounds
     }
 }
 
-fn lesser(a: usize, b: usize) -> usize
-    ensures { λ r. ⌜ r ≡ min a b ⌝ }
-{
-    if a < b { a } else { b }
-}
-
-fn greater(a: usize, b: usize) -> usize
-    ensures { λ r. ⌜ r ≡ max a b ⌝ }
-{
-    if a < b { b } else { a }
-}
-
 // The box between 0 and the offset, ends included.
 fn between(at: Offset) -> Bounds
     ensures { λ r. ⌜ r ≡ betweenOf at ⌝ }
 {
     Bounds {
-        left: lesser(CENTRE, at.x),
-        right: greater(CENTRE, at.x),
-        top: lesser(CENTRE, at.y),
-        bottom: greater(CENTRE, at.y),
+        left: basics::lesser(CENTRE, at.x),
+        right: basics::greater(CENTRE, at.x),
+        top: basics::lesser(CENTRE, at.y),
+        bottom: basics::greater(CENTRE, at.y),
     }
 }
 
 // The board has the sums that stand for the offset.
 pub fn holds(words: &[u64; SUMS], o: Sum, at: Offset) -> bool
     requires { ⌜ Small o ⌝ }
-    requires { ⌜ (at .x ≤ 255) × (at .y ≤ 255) ⌝ }
+    requires { ⌜ OneByte at ⌝ }
     ensures { λ r. ⌜ r ≡ holdsOf (now (words .entry)) o at ⌝ }
 {
     let column = at.x + o.column;
@@ -311,7 +311,7 @@ pub fn all_sums(links: [Element; MOST_LINKS], k: usize) -> Board
 // A path of the first k links leads to the offset.
 pub fn path(links: [Element; MOST_LINKS], k: usize, at: Offset) -> bool
     requires { ⌜ Linked links k ⌝ }
-    requires { ⌜ (at .x ≤ 255) × (at .y ≤ 255) ⌝ }
+    requires { ⌜ OneByte at ⌝ }
     ensures { λ r. ⌜ r ≡ pathTest (shapesOf (take k links)) (placeOf at) ⌝ }
 {
     let m = between(at);

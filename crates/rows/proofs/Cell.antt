@@ -5,32 +5,24 @@ use mathlib.Core.Bool.{Bool, true, false, cond, _&&_}
 use mathlib.Core.List.{List}
 use mathlib.Core.Logic.{⊎-elim}
 use native.Mathlib.Omega.{arith}
-use lib.Dec.{ltb}
-use borrow.Author.Tests.{lt-ltb, le-ltb, le-leb, lt-leb}
 use borrow.Rule.Slice.PartMut.{midOf, putMid}
 use lib.ListN.{length, getD}
 use Rattle.basics.specs.Lists.{firsts}
 use Rattle.basics.proofs.Lists.{list-is}
-use Rattle.basics.proofs.Parts.{below-or-not, put-before, put-within, put-after, put-length, get-mid, length-mid}
+use Rattle.basics.proofs.SliceParts.{below-or-not, put-before, put-within}
+use Rattle.basics.proofs.SliceParts.{put-after, put-length, get-mid, length-mid}
 use Rattle.morphology.specs.Operations.{Change, moved, within}
-use Rattle.rows.specs.Zip.{zipIn}
-use Rattle.rows.specs.Fold.{joinBy}
-use Rattle.rows.specs.Row.{cellRow}
-use Rattle.rows.proofs.Zip.{zip-get, length-zip}
-
--- ---- a place moved by plus - minus, inside the row or not
-pub within-yes : (w x p m : ℕ) → m ≤ x + p → x + p - m < w → within w x p m ≡ true
-within-yes w x p m h k = ap (λ b. b && ltb (x + p - m) w) (le-leb m (x + p) h) ∙ lt-ltb (x + p - m) w k
-
-pub within-low : (w x p m : ℕ) → x + p < m → within w x p m ≡ false
-within-low w x p m h = ap (λ b. b && ltb (x + p - m) w) (lt-leb m (x + p) h)
-
-pub within-high : (w x p m : ℕ) → m ≤ x + p → w ≤ x + p - m → within w x p m ≡ false
-within-high w x p m h k = ap (λ b. b && ltb (x + p - m) w) (le-leb m (x + p) h) ∙ le-ltb (x + p - m) w k
+use Rattle.basics.specs.Zip.{zipIn}
+use Rattle.rows.specs.Steps.Fold.{joinBy}
+use Rattle.rows.specs.Steps.Row.{cellRow}
+use Rattle.rows.proofs.Places.{within-yes, within-low, within-high}
+use Rattle.basics.proofs.Zip.{zip-get, length-zip}
 
 -- the source column beside column x, where the joined part begins at a in the target and at b in the source
-beside : (w p m a b x : ℕ) → a ≡ min (m - p) w → b ≡ min (p - m) w → a ≤ x → x < w - b → b + (x - a) ≡ x + p - m
-beside w p m a b x ea eb h k = ap₂ (λ n l. n + (x - l)) (start-b b (p - m) x w k eb) at-a ∙ sum x p m (subst (λ n. n ≤ x) at-a h)
+beside : (w p m a b x : ℕ) → a ≡ min (m - p) w → b ≡ min (p - m) w → a ≤ x → x < w - b
+    → b + (x - a) ≡ x + p - m
+beside w p m a b x ea eb h k =
+    ap₂ (λ n l. n + (x - l)) (start-b b (p - m) x w k eb) at-a ∙ sum x p m (subst (λ n. n ≤ x) at-a h)
   where
     start-a : (a d x w : ℕ) → a ≤ x → x < w → a ≡ min d w → a ≡ d
     start-a a d x w h k e = omega arith
@@ -61,7 +53,8 @@ reach-high w p m b x e h = omega arith
 
 -- ---- one cell
 -- the columns from a on and before w - b are those whose place lies in the row
-module _ (op : ℕ → ℕ → ℕ) (t s ys : List ℕ) (w p m a b : ℕ) (lt : length t ≡ w) (ls : length s ≡ w) (ea : a ≡ min (m - p) w) (eb : b ≡ min (p - m) w)
+module _ (op : ℕ → ℕ → ℕ) (t s ys : List ℕ) (w p m a b : ℕ) (lt : length t ≡ w)
+    (ls : length s ≡ w) (ea : a ≡ min (m - p) w) (eb : b ≡ min (p - m) w)
     (ey : ys ≡ zipIn op (midOf a (w - b - a) t) (midOf b (w - a - b) s)) where
   abbrev cellAt : ℕ → ℕ
   cellAt x = cond (within w x p m) (op (getD t x 0) (getD s (moved x p m) 0)) (getD t x 0)
@@ -89,15 +82,19 @@ module _ (op : ℕ → ℕ → ℕ) (t s ys : List ℕ) (w p m a b : ℕ) (lt : 
       ∙ put-within a (w - b - a) t ys fits-t len-ys j k1
       ∙ ap (λ l. getD l j 0) ey
       ∙ zip-get op (midOf a (w - b - a) t) (midOf b (w - a - b) s) j
-      (subst (λ n. j < n) (sym (length-mid a (w - b - a) t fits-t)) k1) (subst (λ n. j < n) (sym (length-mid b (w - a - b) s fits-s)) k2)
-      ∙ ap₂ op (get-mid a (w - b - a) t j k1 ∙ ap (λ n. getD t n 0) (sym here)) (get-mid b (w - a - b) s j k2 ∙ ap (λ n. getD s n 0) there)
-      ∙ ap (λ q. cond q (op (getD t x 0) (getD s (x + p - m) 0)) (getD t x 0)) (sym (within-yes w x p m (reach-low w p m a b x ea h k) (reach-high w p m b x eb k)))
+      (subst (λ n. j < n) (sym (length-mid a (w - b - a) t fits-t)) k1)
+      (subst (λ n. j < n) (sym (length-mid b (w - a - b) s fits-s)) k2)
+      ∙ ap₂ op (get-mid a (w - b - a) t j k1 ∙ ap (λ n. getD t n 0) (sym here))
+      (get-mid b (w - a - b) s j k2 ∙ ap (λ n. getD s n 0) there)
+      ∙ ap (λ q. cond q (op (getD t x 0) (getD s (x + p - m) 0)) (getD t x 0))
+      (sym (within-yes w x p m (reach-low w p m a b x ea h k) (reach-high w p m b x eb k)))
 
   at : (x : ℕ) → x < w → getD (putMid a (w - b - a) t ys) x 0 ≡ cellAt x
   at x h =
       ⊎-elim
       (λ k. put-before a (w - b - a) t ys fits-t len-ys x k ∙ stays x (within-low w x p m (omega arith)))
-      (λ k. ⊎-elim (λ q. inside x k q) (λ q. put-after a (w - b - a) t ys fits-t len-ys x (omega arith) ∙ stays x (within-high w x p m (omega arith) (omega arith))) (below-or-not x (w - b)))
+      (λ k. ⊎-elim (λ q. inside x k q) (λ q. put-after a (w - b - a) t ys fits-t len-ys x (omega arith)
+      ∙ stays x (within-high w x p m (omega arith) (omega arith))) (below-or-not x (w - b)))
       (below-or-not x a)
 
   -- over any operation on the row's value and the source's
@@ -105,16 +102,21 @@ module _ (op : ℕ → ℕ → ℕ) (t s ys : List ℕ) (w p m a b : ℕ) (lt : 
   cell-folded = list-is cellAt w _ (put-length a (w - b - a) t ys fits-t len-ys ∙ lt) at
 
 -- of a cell that is set and changes what it finds by its height, and of one that is not
-pub cell-set : (grows : Bool) (change : Change) (g : ℕ) (set : Bool) (t s ys : List ℕ) (w p m a b : ℕ) → length t ≡ w → length s ≡ w
-    → a ≡ min (m - p) w → b ≡ min (p - m) w → ys ≡ zipIn (λ u v. joinBy grows u (change g v)) (midOf a (w - b - a) t) (midOf b (w - a - b) s)
+pub cell-set : (grows : Bool) (change : Change) (g : ℕ) (set : Bool) (t s ys : List ℕ) (w p m a b : ℕ)
+    → length t ≡ w → length s ≡ w
+    → a ≡ min (m - p) w → b ≡ min (p - m) w
+    → ys ≡ zipIn (λ u v. joinBy grows u (change g v)) (midOf a (w - b - a) t) (midOf b (w - a - b) s)
     → set ≡ true → putMid a (w - b - a) t ys ≡ cellRow grows change g set t s w p m
 unfolding cellRow
-cell-set grows change g set t s ys w p m a b lt ls ea eb ey e = cell-folded (λ u v. joinBy grows u (change g v)) t s ys w p m a b lt ls ea eb ey ∙ simp e
+cell-set grows change g set t s ys w p m a b lt ls ea eb ey e =
+    cell-folded (λ u v. joinBy grows u (change g v)) t s ys w p m a b lt ls ea eb ey ∙ simp e
 
-pub cell-unset : (grows : Bool) (change : Change) (g : ℕ) (set : Bool) (t s : List ℕ) (w p m : ℕ) → length t ≡ w → set ≡ false → t ≡ cellRow grows change g set t s w p m
+pub cell-unset : (grows : Bool) (change : Change) (g : ℕ) (set : Bool) (t s : List ℕ) (w p m : ℕ)
+    → length t ≡ w → set ≡ false → t ≡ cellRow grows change g set t s w p m
 unfolding cellRow
 cell-unset grows change g set t s w p m e q =
-    list-is _ w t e (λ x h. ap (λ b. cond (b && within w x p m) (joinBy grows (getD t x 0) (change g (getD s (moved x p m) 0))) (getD t x 0)) (sym q))
+    list-is _ w t e (λ x h. ap (λ b. cond (b && within w x p m)
+    (joinBy grows (getD t x 0) (change g (getD s (moved x p m) 0))) (getD t x 0)) (sym q))
 
 -- ---- the parts lie in their rows
 pub part-order : (w p m a b : ℕ) → a ≡ min (m - p) w → b ≡ min (p - m) w → b ≤ w - a
@@ -123,9 +125,13 @@ part-order w p m a b ea eb = omega arith
 pub part-end : (w a n : ℕ) → n ≡ w → w - a ≤ n
 part-end w a n e = omega arith
 
-pub parts-alike : (t s : List ℕ) (w p m a b : ℕ) → length t ≡ w → length s ≡ w → a ≡ min (m - p) w → b ≡ min (p - m) w → length (midOf b (w - a - b) s) ≤ length (midOf a (w - b - a) t)
+pub parts-alike : (t s : List ℕ) (w p m a b : ℕ) → length t ≡ w → length s ≡ w → a ≡ min (m - p) w
+    → b ≡ min (p - m) w → length (midOf b (w - a - b) s) ≤ length (midOf a (w - b - a) t)
 parts-alike t s w p m a b lt ls ea eb =
-    subst₂ (λ u v. u ≤ v) (sym (length-mid b (w - a - b) s (subst (λ n. b + (w - a - b) ≤ n) (sym ls) (in-s w p m a b ea eb)))) (sym (length-mid a (w - b - a) t (subst (λ n. a + (w - b - a) ≤ n) (sym lt) (in-t w p m a b ea eb)))) (same w a b)
+    subst₂ (λ u v. u ≤ v)
+    (sym (length-mid b (w - a - b) s (subst (λ n. b + (w - a - b) ≤ n) (sym ls) (in-s w p m a b ea eb))))
+    (sym (length-mid a (w - b - a) t (subst (λ n. a + (w - b - a) ≤ n) (sym lt) (in-t w p m a b ea eb))))
+    (same w a b)
   where
     same : (w a b : ℕ) → w - a - b ≤ w - b - a
     same w a b = omega arith

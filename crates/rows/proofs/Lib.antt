@@ -1,10 +1,9 @@
-pub mod Zip
+pub mod Places
 pub mod Cell
 pub mod Fold
-pub mod Nest
+pub mod Gathered
 pub mod Columns
-pub mod Source
 pub mod Weights
-pub mod Packed
 pub mod Swept
+pub mod Written
 pub mod Settled

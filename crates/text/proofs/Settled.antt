@@ -1,4 +1,5 @@
--- Any two outcomes that a contract allows of one call are the same: for each public function, of its contract itself, as the prover reads it.
+-- Any two outcomes that a contract allows of one call are the same:
+-- for each public function, of its contract itself, as the prover reads it.
 use Rattle.basics.proofs.Settled.{Settles, SettlesBytes, settled}
 use Rattle.text.proofs.most_len.Kinds as most-len-kinds
 use Rattle.text.proofs.most_len.Reads as most-len
@@ -13,11 +14,13 @@ most-len-settled κs a x y s t p q = settled p q
 pub put-text-settled : Settles 2 put-text-kinds.ps put-text-kinds.r put-text.Learnt
 put-text-settled κs a x y s t p q = settled (p .0) (q .0)
 
-pub put-text-settled-target : SettlesBytes 2 put-text-kinds.ps put-text-kinds.r put-text.Learnt (λ κs e. e .1 .0 .now)
+pub put-text-settled-target : SettlesBytes 2 put-text-kinds.ps
+    put-text-kinds.r put-text.Learnt (λ κs e. e .1 .0 .now)
 put-text-settled-target κs a x y s t p q = settled (p .1) (q .1)
 
 pub put-refused-settled : Settles 1 put-refused-kinds.ps put-refused-kinds.r put-refused.Learnt
 put-refused-settled κs a x y s t p q = settled (p .0) (q .0)
 
-pub put-refused-settled-target : SettlesBytes 1 put-refused-kinds.ps put-refused-kinds.r put-refused.Learnt (λ κs e. e .0 .now)
+pub put-refused-settled-target : SettlesBytes 1 put-refused-kinds.ps
+    put-refused-kinds.r put-refused.Learnt (λ κs e. e .0 .now)
 put-refused-settled-target κs a x y s t p q = settled (p .1) (q .1)

@@ -1,10 +1,11 @@
 -- Document 01, "echtext": what is printed of a picture. Letters are their ASCII numbers.
-use Prim.Native.Nat.{ℕ, _+_, _*_, _/_, _%_}
+use Prim.Native.Nat.{ℕ, _+_, _*_}
 use mathlib.Core.Bool.{cond}
 use mathlib.Core.List.{List, [], _∷_, _++_}
-use lib.Dec.{ltb, eqb}
+use lib.Dec.{eqb}
 use lib.ListN.{length}
 use Rattle.basics.specs.Lists.{joined}
+use Rattle.digits.specs.Decimal.{decimal}
 use Rattle.picture.specs.declared.Depth.{Depth}
 use Rattle.picture.specs.declared.Depth.the-variants.{OneBit, EightBit}
 use Rattle.picture.specs.Bytes.{Picture}
@@ -16,27 +17,18 @@ space = 0x20
 abbrev pub lineFeed : ℕ
 lineFeed = 10
 
--- a number below 10,000 in decimal, with no leading zero
-abbrev pub digit : ℕ → ℕ
-digit n = 48 + n % 10
-
-unfoldable pub decimal : ℕ → List ℕ
-decimal n =
-    cond (ltb n 10) (digit n ∷ [])
-    (cond (ltb n 100) (digit (n / 10) ∷ digit n ∷ [])
-    (cond (ltb n 1000) (digit (n / 100) ∷ digit (n / 10) ∷ digit n ∷ [])
-    (digit (n / 1000) ∷ digit (n / 100) ∷ digit (n / 10) ∷ digit n ∷ [])))
-
 -- "ECH", the size and the kind: ECH 7x1 kind 1
 unfoldable pub headLine : ℕ → ℕ → ℕ → List ℕ
 headLine w h kind =
-    (69 ∷ 67 ∷ 72 ∷ space ∷ []) ++ (decimal w ++ ((120 ∷ []) ++ (decimal h ++ ((space ∷ 107 ∷ 105 ∷ 110 ∷ 100 ∷ space ∷ []) ++ (decimal kind ++ (lineFeed ∷ []))))))
+    (69 ∷ 67 ∷ 72 ∷ space ∷ []) ++ (decimal w ++ ((120 ∷ []) ++ (decimal h
+    ++ ((space ∷ 107 ∷ 105 ∷ 110 ∷ 100 ∷ space ∷ []) ++ (decimal kind ++ (lineFeed ∷ []))))))
 
 -- # for an echo and . for none
 abbrev pub mark : ℕ → ℕ
 mark v = cond (eqb v 0) 46 35
 
--- the point of column x, with the value v: of one bit a mark; else its decimal value, after a space where others stand before it
+-- the point of column x, with the value v: of one bit a mark;
+-- else its decimal value, after a space where others stand before it
 unfoldable pub itemOf : Depth → ℕ → ℕ → List ℕ
 itemOf OneBit v x = mark v ∷ []
 itemOf EightBit v x = cond (eqb x 0) [] (space ∷ []) ++ decimal v

@@ -1,2 +1,1 @@
-pub mod Padless
 pub mod Settled

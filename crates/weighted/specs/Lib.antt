@@ -1,2 +1,2 @@
-pub mod Calls
-pub mod Ways
+pub mod Weighted
+pub mod Steps

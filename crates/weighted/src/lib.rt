@@ -1,6 +1,8 @@
-// Weighted erosion, dilation, opening and closing of 8-bit pictures as a user calls them: the answer and every lent byte are settled for
-// all inputs. The element's heights are read where they stand, in its descriptor.
+// Weighted erosion, dilation, opening and closing of 8-bit pictures as a user calls them:
+// the answer and every lent byte are settled for all inputs.
+// The element's heights are read where they stand, in its descriptor.
 use answer::Answer;
+use judge::Padding;
 use picture::Depth;
 use rows::Way;
 ghost use mathlib.Core.Path.{_≡_};
@@ -8,19 +10,38 @@ ghost use Prim.Native.Nat.{min};
 ghost use lib.ListN.{length};
 ghost use Rattle.answer.specs.Answer.{told};
 ghost use Rattle.morphology.specs.Weighted.{erodeWeighted, dilateWeighted, openWeighted, closeWeighted};
-ghost use Rattle.rows.specs.Task.{growsOf};
-ghost use Rattle.weighted.specs.Calls.{weightedAnswer, weightedLeft};
-ghost use Rattle.weighted.specs.Ways.{onceBy, twiceBy};
+ghost use Rattle.rows.specs.Steps.Ways.{growsOf};
+ghost use Rattle.weighted.specs.Weighted.{weightedAnswer, weightedLeft};
+ghost use Rattle.weighted.specs.Steps.Ways.{onceBy, twiceBy};
 
 // One operation, from the source into the target.
 fn run(way: Way, w: usize, h: usize, source: &[u8], element: &[u8], target: &mut [u8]) -> Answer
-    ensures answer { λ r. ⌜ told r ≡ weightedAnswer w h (now (source .entry)) (now (element .entry)) (length (now (target .entry))) ⌝ }
-    ensures bytes { λ _. ⌜ now (target .exit) ≡ weightedLeft (onceBy (growsOf way)) w h (now (source .entry)) (now (element .entry)) (length (now (target .entry))) (now (target .entry)) ⌝ }
+    ensures answer { λ r. ⌜
+        told r
+        ≡ weightedAnswer w h (now (source .entry)) (now (element .entry))
+        (length (now (target .entry))) ⌝ }
+    ensures bytes { λ _. ⌜
+        now (target .exit)
+        ≡ weightedLeft (onceBy (growsOf way)) w h (now (source .entry)) (now (element .entry))
+        (length (now (target .entry))) (now (target .entry)) ⌝ }
 {
-    operation::run(true, Depth::EightBit, way, w, h, source, element, target)
+    let read = element::read_weighted(element);
+    let shape = read.answer;
+    let e = read.element;
+    let room = target.len();
+    let eight = Depth::EightBit;
+    let no = judge::refusal(Padding::Free, eight, w, h, source, shape, 0, room);
+    if answer::is_done(no) {
+        let o = e.outline;
+        let at = element::cells_end(o.w, o.h);
+        apply::weighted(way, w, h, source, e, &element[at..], target);
+        return no;
+    }
+    no
 }
 
-// Two operations by one element: the first from the source into the scratch, the other from there into the target.
+// Two operations by one element:
+// the first from the source into the scratch, the other from there into the target.
 fn run_twice(
     first: Way,
     w: usize,
@@ -30,35 +51,58 @@ fn run_twice(
     target: &mut [u8],
     scratch: &mut [u8],
 ) -> Answer
-    ensures answer { λ r. ⌜ told r ≡ weightedAnswer w h (now (source .entry)) (now (element .entry)) (min (length (now (target .entry))) (length (now (scratch .entry)))) ⌝ }
-    ensures bytes { λ _. ⌜ now (target .exit) ≡ weightedLeft (twiceBy (growsOf first)) w h (now (source .entry)) (now (element .entry)) (min (length (now (target .entry))) (length (now (scratch .entry)))) (now (target .entry)) ⌝ }
-    ensures middle { λ _. ⌜ now (scratch .exit) ≡ weightedLeft (onceBy (growsOf first)) w h (now (source .entry)) (now (element .entry)) (min (length (now (target .entry))) (length (now (scratch .entry)))) (now (scratch .entry)) ⌝ }
+    ensures answer { λ r. ⌜
+        told r
+        ≡ weightedAnswer w h (now (source .entry)) (now (element .entry))
+        (min (length (now (target .entry))) (length (now (scratch .entry)))) ⌝ }
+    ensures bytes { λ _. ⌜
+        now (target .exit)
+        ≡ weightedLeft (twiceBy (growsOf first)) w h (now (source .entry)) (now (element .entry))
+        (min (length (now (target .entry))) (length (now (scratch .entry)))) (now (target .entry)) ⌝ }
+    ensures middle { λ _. ⌜
+        now (scratch .exit)
+        ≡ weightedLeft (onceBy (growsOf first)) w h (now (source .entry)) (now (element .entry))
+        (min (length (now (target .entry))) (length (now (scratch .entry)))) (now (scratch .entry)) ⌝ }
 {
-    operation::run_twice(
-        true,
-        Depth::EightBit,
-        first,
-        w,
-        h,
-        source,
-        element,
-        target,
-        scratch,
-    )
+    let read = element::read_weighted(element);
+    let shape = read.answer;
+    let e = read.element;
+    let room = basics::lesser(target.len(), scratch.len());
+    let eight = Depth::EightBit;
+    let no = judge::refusal(Padding::Free, eight, w, h, source, shape, 0, room);
+    if answer::is_done(no) {
+        let o = e.outline;
+        let at = element::cells_end(o.w, o.h);
+        apply::weighted_twice(first, w, h, source, e, &element[at..], target, scratch);
+        return no;
+    }
+    no
 }
 
 // Erosion of the w x h picture in the source by the element of a weighted descriptor, into the target.
 pub fn erode(w: usize, h: usize, source: &[u8], element: &[u8], target: &mut [u8]) -> Answer
-    ensures answer { λ r. ⌜ told r ≡ weightedAnswer w h (now (source .entry)) (now (element .entry)) (length (now (target .entry))) ⌝ }
-    ensures bytes { λ _. ⌜ now (target .exit) ≡ weightedLeft erodeWeighted w h (now (source .entry)) (now (element .entry)) (length (now (target .entry))) (now (target .entry)) ⌝ }
+    ensures answer { λ r. ⌜
+        told r
+        ≡ weightedAnswer w h (now (source .entry)) (now (element .entry))
+        (length (now (target .entry))) ⌝ }
+    ensures bytes { λ _. ⌜
+        now (target .exit)
+        ≡ weightedLeft erodeWeighted w h (now (source .entry)) (now (element .entry))
+        (length (now (target .entry))) (now (target .entry)) ⌝ }
 {
     run(Way::Erode, w, h, source, element, target)
 }
 
 // Dilation.
 pub fn dilate(w: usize, h: usize, source: &[u8], element: &[u8], target: &mut [u8]) -> Answer
-    ensures answer { λ r. ⌜ told r ≡ weightedAnswer w h (now (source .entry)) (now (element .entry)) (length (now (target .entry))) ⌝ }
-    ensures bytes { λ _. ⌜ now (target .exit) ≡ weightedLeft dilateWeighted w h (now (source .entry)) (now (element .entry)) (length (now (target .entry))) (now (target .entry)) ⌝ }
+    ensures answer { λ r. ⌜
+        told r
+        ≡ weightedAnswer w h (now (source .entry)) (now (element .entry))
+        (length (now (target .entry))) ⌝ }
+    ensures bytes { λ _. ⌜
+        now (target .exit)
+        ≡ weightedLeft dilateWeighted w h (now (source .entry)) (now (element .entry))
+        (length (now (target .entry))) (now (target .entry)) ⌝ }
 {
     run(Way::Dilate, w, h, source, element, target)
 }
@@ -72,9 +116,18 @@ pub fn open(
     target: &mut [u8],
     scratch: &mut [u8],
 ) -> Answer
-    ensures answer { λ r. ⌜ told r ≡ weightedAnswer w h (now (source .entry)) (now (element .entry)) (min (length (now (target .entry))) (length (now (scratch .entry)))) ⌝ }
-    ensures bytes { λ _. ⌜ now (target .exit) ≡ weightedLeft openWeighted w h (now (source .entry)) (now (element .entry)) (min (length (now (target .entry))) (length (now (scratch .entry)))) (now (target .entry)) ⌝ }
-    ensures middle { λ _. ⌜ now (scratch .exit) ≡ weightedLeft erodeWeighted w h (now (source .entry)) (now (element .entry)) (min (length (now (target .entry))) (length (now (scratch .entry)))) (now (scratch .entry)) ⌝ }
+    ensures answer { λ r. ⌜
+        told r
+        ≡ weightedAnswer w h (now (source .entry)) (now (element .entry))
+        (min (length (now (target .entry))) (length (now (scratch .entry)))) ⌝ }
+    ensures bytes { λ _. ⌜
+        now (target .exit)
+        ≡ weightedLeft openWeighted w h (now (source .entry)) (now (element .entry))
+        (min (length (now (target .entry))) (length (now (scratch .entry)))) (now (target .entry)) ⌝ }
+    ensures middle { λ _. ⌜
+        now (scratch .exit)
+        ≡ weightedLeft erodeWeighted w h (now (source .entry)) (now (element .entry))
+        (min (length (now (target .entry))) (length (now (scratch .entry)))) (now (scratch .entry)) ⌝ }
 {
     run_twice(Way::Erode, w, h, source, element, target, scratch)
 }
@@ -88,9 +141,18 @@ pub fn close(
     target: &mut [u8],
     scratch: &mut [u8],
 ) -> Answer
-    ensures answer { λ r. ⌜ told r ≡ weightedAnswer w h (now (source .entry)) (now (element .entry)) (min (length (now (target .entry))) (length (now (scratch .entry)))) ⌝ }
-    ensures bytes { λ _. ⌜ now (target .exit) ≡ weightedLeft closeWeighted w h (now (source .entry)) (now (element .entry)) (min (length (now (target .entry))) (length (now (scratch .entry)))) (now (target .entry)) ⌝ }
-    ensures middle { λ _. ⌜ now (scratch .exit) ≡ weightedLeft dilateWeighted w h (now (source .entry)) (now (element .entry)) (min (length (now (target .entry))) (length (now (scratch .entry)))) (now (scratch .entry)) ⌝ }
+    ensures answer { λ r. ⌜
+        told r
+        ≡ weightedAnswer w h (now (source .entry)) (now (element .entry))
+        (min (length (now (target .entry))) (length (now (scratch .entry)))) ⌝ }
+    ensures bytes { λ _. ⌜
+        now (target .exit)
+        ≡ weightedLeft closeWeighted w h (now (source .entry)) (now (element .entry))
+        (min (length (now (target .entry))) (length (now (scratch .entry)))) (now (target .entry)) ⌝ }
+    ensures middle { λ _. ⌜
+        now (scratch .exit)
+        ≡ weightedLeft dilateWeighted w h (now (source .entry)) (now (element .entry))
+        (min (length (now (target .entry))) (length (now (scratch .entry)))) (now (scratch .entry)) ⌝ }
 {
     run_twice(Way::Dilate, w, h, source, element, target, scratch)
 }

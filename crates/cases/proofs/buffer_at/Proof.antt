@@ -1,50 +1,41 @@
-use mathlib.Core.Path.{sym}
-use lib.Seq.{length-take-le}
+-- Invariant: b is as long as it was, and i lies in it.
+-- What falls: the bytes of b that are left.
+use Prim.Native.Nat.{_≤_, _-_}
+use lib.ListN.{length}
+use mathlib.Core.Path.{_≡_}
+use Rattle.io.proofs.Counting.{counts}
 use borrow.Author.Needs.{needs}
 use Rattle.cases.proofs.buffer_at.Statement.{statement}
 use Rattle.cases.proofs.buffer_at.Tie as tie
 
--- src/main.rt:122:9
-number-at-requires : tie.Need-number-at-requires
-number-at-requires c κs = search needs
+abbrev Inv-loop : tie.InvT-loop
+Inv-loop line at b₀ n m last₀ i₀ b last i = (length b ≡ length b₀) × (i ≤ length b₀)
 
--- src/main.rt:123:9
-number-at-requires-2 : tie.Need-number-at-requires-2
-number-at-requires-2 c κs = search needs
+abbrev μ-loop : tie.MeasureT-loop
+μ-loop line at b₀ n m last₀ i₀ b last i = length b₀ - i
 
--- src/main.rt:124:9
-lesser-requires : tie.Need-lesser-requires
-lesser-requires c κs = search needs
+returns : tie.Need-returns Inv-loop μ-loop
+returns c = counts _ _ (search needs)
 
--- src/main.rt:125:47
-slice-relend-prefix-bytes-at : tie.Need-slice-relend-prefix-bytes-at
-slice-relend-prefix-bytes-at c = search needs
-
--- src/main.rt:125:47
-slice-aggregate-bytes-at : tie.Need-slice-aggregate-bytes-at
-slice-aggregate-bytes-at c = sym (length-take-le _ _ (c .before .lesser .ensures .1))
-
--- src/main.rt:125:9
-bytes-at-requires : tie.Need-bytes-at-requires
-bytes-at-requires c κs = search needs
-
--- src/main.rt:118:1
-same-length : tie.Need-same-length
-same-length c = search needs
-
--- src/main.rt:118:1
-returns : tie.Need-returns
-returns c = search needs
+returns-2 : tie.Need-returns-2 Inv-loop μ-loop
+returns-2 c = counts _ _ (search needs)
 
 pub buffer-at-spec : {M : Type 1} → statement M
 buffer-at-spec =
     tie.close
     (tie.spec
-    number-at-requires
-    number-at-requires-2
-    lesser-requires
-    slice-relend-prefix-bytes-at
-    slice-aggregate-bytes-at
-    bytes-at-requires
-    same-length
-    returns)
+    Inv-loop
+    μ-loop
+    (λ c κs. search needs)
+    (λ c κs. search needs)
+    (λ c. search needs)
+    (λ c. search needs)
+    returns
+    (λ c κs. search needs)
+    (λ c. search needs)
+    (λ c. search needs)
+    (λ c. search needs)
+    (λ c. search needs)
+    (λ c. search needs)
+    (λ c. search needs)
+    returns-2)

@@ -1,3 +1,5 @@
+-- Each bound is one test of the definition: a number below 1 settles the first, any other leaves the second.
+-- So each return is the definition with its tests computed.
 use borrow.Author.Tests.{le-leb, lt-leb}
 use Rattle.chain.proofs.is_counted.Statement.{statement}
 use Rattle.chain.proofs.is_counted.Tie as tie

@@ -1,61 +1,92 @@
-use Rattle.answer.specs.Answer.{told}
-use Rattle.chained.proofs.Answers.{answer-is, kept, going, left}
-use Rattle.chained.specs.Run.{firstAfter, secondAfter}
-use mathlib.Core.Path.{sym, _∙_}
+-- The check stands between the tests of the picture and the room, so that the answer is the definition's.
+-- Where it is done, the elements that were read are the links of the bytes,
+-- and the loop leaves their results.
+use Prim.Native.Nat.{min}
+use mathlib.Core.Path.{_≡_, refl, sym, _∙_}
+use mathlib.Core.Bool.{true}
+use native.Mathlib.Omega.{arith}
+use lib.ListN.{length}
 use borrow.Author.Needs.{needs}
+use Rattle.basics.specs.Bytes.{Bytes}
+use Rattle.answer.specs.Answer.{told, isDone}
+use Rattle.answer.proofs.Lent.{kept-by}
+use Rattle.rows.specs.Steps.Ways.{growsOf}
+use Rattle.chained.specs.Run.{runAnswer}
+use Rattle.chained.proofs.Answers.{answer-is, going, first-left, second-left}
 use Rattle.chained.proofs.run.Statement.{statement}
 use Rattle.chained.proofs.run.Tie as tie
 
-check-chain-requires : tie.Need-check-chain-requires
-check-chain-requires c κs = search needs
+-- where the links were read, and where the run was judged
+abbrev links : tie.After-refusal → tie.After-checked-links
+links c = c .before .before .before
 
-lesser-requires : tie.Need-lesser-requires
-lesser-requires c κs = search needs
+abbrev entry : tie.After-refusal → tie.Start
+entry c = links c .before .before .before .before .before .before
 
-refusal-requires : tie.Need-refusal-requires
-refusal-requires c κs = search needs
+chain-bytes : (c : tie.After-refusal) → Bytes (entry c .args .chain .now)
+chain-bytes c i = omega (arith, links c .before .before .before .shared-slice-known3 .given i)
 
-is-done-requires : tie.Need-is-done-requires
-is-done-requires c κs = search needs
+answered : (c : tie.After-refusal) → let a = entry c .args in
+    told (c .refusal .result)
+    ≡ runAnswer (a .depth) (a .w) (a .h) (a .source .now) (a .element .now) (a .links) (a .chain .now)
+    (min (length (a .first .now)) (length (a .second .now)))
+answered c =
+    let a = entry c .args in
+    answer-is (a .depth) true (a .w) (a .h) (a .source .now) (a .element .now) (a .links) (a .chain .now)
+    (a .first .now) (a .second .now) (links c .checked-links .result) (c .refusal .result) _
+    (links c .checked-links .ensures) (c .before .lesser .ensures) (c .refusal .ensures)
 
-picture-bytes-requires : tie.Need-picture-bytes-requires
-picture-bytes-requires c κs = search needs
-
-task-of-requires : tie.Need-task-of-requires
-task-of-requires c κs = search needs
+done : (c : tie.Then1) → isDone (told (c .before .before .refusal .result)) ≡ true
+done c = sym (c .before .is-done .ensures) ∙ c .if1 .taken
 
 each-link-requires : tie.Need-each-link-requires
-each-link-requires c κs = let a = c .before .before .before .before .before .before .before .before .before .before .before .before .before .before .args in going (a .depth) (a .way) (a .w) (a .h) (a .source .now) (a .element .now) (a .links) (a .chain .now) (a .first .now) (a .second .now) _ (c .before .before .before .before .before .before .refusal .result) _ (c .before .before .before .before .before .before .before .before .check-chain .ensures) (c .before .before .before .before .before .before .before .lesser .ensures) (c .before .before .before .before .before .before .refusal .ensures) (sym (c .before .before .before .before .before .is-done .ensures) ∙ c .before .before .before .before .if1 .taken) _ (c .before .before .task-of .ensures) _ (c .before .before .before .picture-bytes .ensures)
-
-same-length : tie.Need-same-length
-same-length c = search needs
-
-same-length-2 : tie.Need-same-length-2
-same-length-2 c = search needs
+each-link-requires c κs =
+    let t = c .before .before in
+    let j = t .before .before in
+    let a = entry j .args in
+    going (a .depth) true (a .w) (a .h) (a .source .now) (a .element .now) (a .links) (a .chain .now)
+    (a .first .now) (a .second .now) (links j .checked-links .result) (j .refusal .result) _
+    (links j .checked-links .ensures) (j .before .lesser .ensures)
+    (j .refusal .ensures) (done t) (chain-bytes j)
 
 returns : tie.Need-returns
-returns c = let a = c .before .before .before .before .before .before .before .before .before .before .before .before .before .before .before .before .before .before .before .args in let s = answer-is (a .depth) (a .way) (a .w) (a .h) (a .source .now) (a .element .now) (a .links) (a .chain .now) (a .first .now) (a .second .now) _ (c .before .before .before .before .before .before .before .before .before .before .before .refusal .result) _ (c .before .before .before .before .before .before .before .before .before .before .before .before .before .check-chain .ensures) (c .before .before .before .before .before .before .before .before .before .before .before .before .lesser .ensures) (c .before .before .before .before .before .before .before .before .before .before .before .refusal .ensures) in
-    let m = left (a .depth) (a .way) (a .w) (a .h) (a .source .now) (a .element .now) (a .links) (a .chain .now) (a .first .now) (a .second .now) _ (c .before .before .before .before .before .before .before .before .before .before .before .refusal .result) _ (c .before .before .before .before .before .before .before .before .before .before .before .before .before .check-chain .ensures) (c .before .before .before .before .before .before .before .before .before .before .before .before .lesser .ensures) (c .before .before .before .before .before .before .before .before .before .before .before .refusal .ensures) (sym (c .before .before .before .before .before .before .before .before .before .before .is-done .ensures) ∙ c .before .before .before .before .before .before .before .before .before .if1 .taken) _ (c .before .before .before .before .before .before .before .task-of .ensures) in
-    (s, (m firstAfter (a .first .now) _ (c .before .before .before .before .each-link .ensures .0), m secondAfter (a .second .now) _ (c .before .before .before .before .each-link .ensures .1)))
+returns c =
+    let l = c .before .before .before .before in
+    let t = l .before .before .before in
+    let j = t .before .before in
+    let a = entry j .args in (
+      answered j,
+      (
+        first-left (a .depth) (growsOf (a .way)) (a .w) (a .h) (a .source .now) (a .element .now) (a .links)
+            (a .chain .now) (a .first .now) (a .second .now)
+            (links j .checked-links .result) (j .refusal .result) _
+            (links j .checked-links .ensures) (j .before .lesser .ensures)
+            (j .refusal .ensures) (done t) (chain-bytes j) _
+            (l .each-link .ensures .0),
+        second-left (a .depth) (growsOf (a .way)) (a .w) (a .h) (a .source .now) (a .element .now) (a .links)
+            (a .chain .now) (a .first .now) (a .second .now)
+            (links j .checked-links .result) (j .refusal .result) _
+            (links j .checked-links .ensures) (j .before .lesser .ensures)
+            (j .refusal .ensures) (done t) (chain-bytes j) _
+            (l .each-link .ensures .1),
+      ),
+    )
 
 returns-2 : tie.Need-returns-2
-returns-2 c = let a = c .before .before .before .before .before .before .before .before .before .before .args in let s = answer-is (a .depth) (a .way) (a .w) (a .h) (a .source .now) (a .element .now) (a .links) (a .chain .now) (a .first .now) (a .second .now) _ (c .before .before .refusal .result) _ (c .before .before .before .before .check-chain .ensures) (c .before .before .before .lesser .ensures) (c .before .before .refusal .ensures) in
-    let t = told (c .before .before .refusal .result) in
-    let q = sym (c .before .is-done .ensures) ∙ c .if1 .left in
-    (s, (kept t (a .first .now) _ q, kept t (a .second .now) _ q))
+returns-2 c =
+    let no = sym (c .before .is-done .ensures) ∙ c .if1 .left in
+    (answered (c .before .before), (kept-by _ _ _ _ refl no, kept-by _ _ _ _ refl no))
 
 pub run-spec : {M : Type 1} → statement M
 run-spec =
     tie.close
     (tie.spec
-    check-chain-requires
-    lesser-requires
-    refusal-requires
-    is-done-requires
-    picture-bytes-requires
-    task-of-requires
+    (λ c κs. search needs)
+    (λ c κs. search needs)
+    (λ c κs. search needs)
+    (λ c κs. search needs)
     each-link-requires
-    same-length
-    same-length-2
+    (λ c. search needs)
+    (λ c. search needs)
     returns
     returns-2)

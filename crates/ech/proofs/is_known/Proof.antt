@@ -1,3 +1,5 @@
+-- Stands on the two tests of the definition.
+-- Each answer is the definition's where its test is the first that fails.
 use borrow.Author.Tests.{lt-leb, le-leb}
 use Rattle.ech.proofs.is_known.Statement.{statement}
 use Rattle.ech.proofs.is_known.Tie as tie

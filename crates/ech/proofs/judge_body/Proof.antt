@@ -1,36 +1,38 @@
-use mathlib.Core.Path.{sym, _∙_}
+-- Stands on judge's refusal, of the body alone.
+-- Kind, W and H are given back where nothing is refused, and else 0.
+use Rattle.ech.proofs.Judging.{body-judged}
 use Rattle.ech.proofs.Reading.{body-done, body-refused}
+use Rattle.ech.specs.ReadWrite.{bodyTests}
+use Rattle.answer.specs.Answer.{told, plain}
+use Rattle.answer.specs.Refuse.{refuse}
+use mathlib.Core.Path.{_≡_, sym, _∙_}
 use borrow.Author.Needs.{needs}
 use Rattle.ech.proofs.judge_body.Statement.{statement}
 use Rattle.ech.proofs.judge_body.Tie as tie
 
-depth-of-requires : tie.Need-depth-of-requires
-depth-of-requires c κs = search needs
-
-judged-requires : tie.Need-judged-requires
-judged-requires c κs = search needs
-
-is-done-requires : tie.Need-is-done-requires
-is-done-requires c κs = search needs
+judged : (c : tie.After-refusal) → let a = c .before .before .before .args in
+    told (c .refusal .result)
+    ≡ refuse (bodyTests (c .before .depth-of .result) (a .w) (a .h) (a .body .now) 0 (a .room)) (plain 0)
+judged c = let a = c .before .before .before .args in
+    body-judged (c .before .depth-of .result) (a .w) (a .h) (a .body .now) 0 (a .room) _ (c .refusal .ensures)
 
 returns : tie.Need-returns
-returns c = let a = c .before .before .before .before .before .args in
-    body-done (a .kind) (a .w) (a .h) (a .body .now) (a .room) _ _ (c .before .before .before .depth-of .ensures) (c .before .before .judged .ensures) (sym (c .before .is-done .ensures) ∙ c .if1 .taken)
-
-refused-requires : tie.Need-refused-requires
-refused-requires c κs = search needs
+returns c = let r = c .before .before in
+    body-done _ _ _ _ _ _ _
+    (r .before .depth-of .ensures) (judged r) (sym (c .before .is-done .ensures) ∙ c .if1 .taken)
 
 returns-2 : tie.Need-returns-2
-returns-2 c = let a = c .before .before .before .before .before .before .args in
-    body-refused (a .kind) (a .w) (a .h) (a .body .now) (a .room) _ _ (c .before .before .before .before .depth-of .ensures) (c .before .before .before .judged .ensures) _ (sym (c .before .before .is-done .ensures) ∙ c .before .if1 .left) (c .refused .ensures)
+returns-2 c = let r = c .before .before .before in
+    body-refused _ _ _ _ _ _ _ (r .before .depth-of .ensures) (judged r) _
+    (sym (c .before .before .is-done .ensures) ∙ c .before .if1 .left) (c .refused .ensures)
 
 pub judge-body-spec : {M : Type 1} → statement M
 judge-body-spec =
     tie.close
     (tie.spec
-    depth-of-requires
-    judged-requires
-    is-done-requires
+    (λ c κs. search needs)
+    (λ c κs. search needs)
+    (λ c κs. search needs)
     returns
-    refused-requires
+    (λ c κs. search needs)
     returns-2)

@@ -1,63 +1,63 @@
-use native.Mathlib.Omega.{arith}
-use mathlib.Core.Path.{refl, sym, _∙_}
-use Rattle.basics.proofs.Lists.{tail-is}
+-- Stands on judge_ech, then on the copy: an accepted file holds its picture, and the target has room for it.
+-- A refusal writes nothing.
 use Rattle.ech.proofs.Reading.{file-long, source-held, target-held, read-done, read-refused}
+use Rattle.ech.specs.File.{headBytes}
+use Rattle.answer.specs.Answer.{told, isDone}
+use Rattle.basics.proofs.Lists.{tail-is}
+use lib.ListN.{length}
+use Prim.Native.Nat.{_≤_}
+use mathlib.Core.Bool.{true}
+use mathlib.Core.Path.{_≡_, refl, sym, _∙_}
+use native.Mathlib.Omega.{arith}
 use borrow.Author.Needs.{needs}
 use Rattle.ech.proofs.read_ech.Statement.{statement}
 use Rattle.ech.proofs.read_ech.Tie as tie
 
-judge-ech-requires : tie.Need-judge-ech-requires
-judge-ech-requires c κs = search needs
+-- where nothing is refused
+done : (c : tie.Then1) → isDone (told (c .before .before .judge-ech .result .answer)) ≡ true
+done c = sym (c .before .is-done .ensures) ∙ c .if1 .taken
 
-is-done-requires : tie.Need-is-done-requires
-is-done-requires c κs = search needs
-
-depth-of-requires : tie.Need-depth-of-requires
-depth-of-requires c κs = search needs
-
-face-of-requires : tie.Need-face-of-requires
-face-of-requires c κs = search needs
-
-sub-copy-picture : tie.Need-sub-copy-picture
-sub-copy-picture c = let a = c .before .before .before .before .before .before .before .args in omega (arith, file-long (a .file .now) (a .target .now) _ _ (c .before .before .before .before .judge-ech .ensures) (sym (c .before .before .before .is-done .ensures) ∙ c .before .before .if1 .taken))
-
-part-copy-picture-start : tie.Need-part-copy-picture-start
-part-copy-picture-start c = let a = c .before .before .before .before .before .before .before .args in omega (arith, file-long (a .file .now) (a .target .now) _ _ (c .before .before .before .before .judge-ech .ensures) (sym (c .before .before .before .is-done .ensures) ∙ c .before .before .if1 .taken))
-
-part-copy-picture-end : tie.Need-part-copy-picture-end
-part-copy-picture-end c = search needs
+long : (c : tie.Then1) → headBytes ≤ length (c .before .before .before .before .before .args .file .now)
+long c =
+    file-long _ (c .before .before .before .before .before .args .target .now) _ _
+    (c .before .before .judge-ech .ensures) (done c)
 
 copy-picture-requires : tie.Need-copy-picture-requires
-copy-picture-requires c κs = let a = c .before .before .before .before .before .before .before .before .before .args in
-    let g = c .before .before .before .before .before .before .judge-ech .ensures in
-    let e = sym (c .before .before .before .before .before .is-done .ensures) ∙ c .before .before .before .before .if1 .taken in
-    (source-held (a .file .now) (a .target .now) _ _ g e _ _ (c .before .before .before .depth-of .ensures) (tail-is (a .file .now) 10), target-held (a .file .now) (a .target .now) _ _ g e _ (c .before .before .before .depth-of .ensures))
-
-same-length : tie.Need-same-length
-same-length c = search needs
+copy-picture-requires c κs = let t = c .before .before .before .before in
+    let a = t .before .before .before .before .before .args in
+    let g = t .before .before .judge-ech .ensures in
+    let d = c .before .before .before .depth-of .ensures in (
+      source-held (a .file .now) (a .target .now) _ _ g (done t) _ _ d (tail-is (a .file .now) 10),
+      target-held (a .file .now) (a .target .now) _ _ g (done t) _ d,
+    )
 
 returns : tie.Need-returns
-returns c = let a = c .before .before .before .before .before .before .before .before .before .before .before .before .args in
-    let g = c .before .before .before .before .before .before .before .before .before .judge-ech .ensures in
-    (g, read-done (a .file .now) (a .target .now) _ _ g (sym (c .before .before .before .before .before .before .before .before .is-done .ensures) ∙ c .before .before .before .before .before .before .before .if1 .taken) refl _ _ _ _ (c .before .before .before .before .before .before .depth-of .ensures) (c .before .before .before .before .before .face-of .ensures) (tail-is (a .file .now) 10) (c .before .before .copy-picture .ensures))
+returns c = let t = c .before .before .before .before .before .before .before in
+    let a = t .before .before .before .before .before .args in
+    let g = t .before .before .judge-ech .ensures in (
+      g,
+      read-done (a .file .now) (a .target .now) _ _ g (done t) refl _ _ _ _
+          (c .before .before .before .before .before .before .depth-of .ensures)
+          (c .before .before .before .before .before .face-of .ensures)
+          (tail-is (a .file .now) 10) (c .before .before .copy-picture .ensures),
+    )
 
 returns-2 : tie.Need-returns-2
-returns-2 c = let a = c .before .before .before .before .before .args in
-    let g = c .before .before .judge-ech .ensures in
-    (g, read-refused (a .file .now) (a .target .now) _ _ g refl (sym (c .before .is-done .ensures) ∙ c .if1 .left))
+returns-2 c = let g = c .before .before .judge-ech .ensures in
+    (g, read-refused _ _ _ _ g refl (sym (c .before .is-done .ensures) ∙ c .if1 .left))
 
 pub read-ech-spec : {M : Type 1} → statement M
 read-ech-spec =
     tie.close
     (tie.spec
-    judge-ech-requires
-    is-done-requires
-    depth-of-requires
-    face-of-requires
-    sub-copy-picture
-    part-copy-picture-start
-    part-copy-picture-end
+    (λ c κs. search needs)
+    (λ c κs. search needs)
+    (λ c κs. search needs)
+    (λ c κs. search needs)
+    (λ c. omega (arith, long (c .before .before)))
+    (λ c. omega (arith, long (c .before .before)))
+    (λ c. search needs)
     copy-picture-requires
-    same-length
+    (λ c. search needs)
     returns
     returns-2)

@@ -1,53 +1,67 @@
-use Rattle.ech.proofs.Writing.{unknown, write-done, write-refused, write-passed}
+-- Stands on is_known, judge's refusal and put_file: what nothing refuses is admitted, and is written.
+-- A refusal writes nothing.
+use Rattle.ech.proofs.Judging.{body-judged, write-admitted}
+use Rattle.ech.proofs.Writing.{unknown, write-answer, write-done, write-refused}
+use Rattle.ech.specs.File.{headBytes, knownKind}
+use Rattle.ech.specs.ReadWrite.{bodyTests}
 use Rattle.answer.specs.declared.Answer.the-variants.{Form}
-use mathlib.Core.Path.{refl, sym, _∙_}
+use Rattle.answer.specs.Answer.{told, plain, isDone}
+use Rattle.answer.specs.Refuse.{refuse}
+use lib.ListN.{length}
+use mathlib.Core.Bool.{true}
+use mathlib.Core.Path.{_≡_, refl, sym, ap, _∙_}
 use borrow.Author.Needs.{needs}
 use Rattle.ech.proofs.write_ech.Statement.{statement}
 use Rattle.ech.proofs.write_ech.Tie as tie
 
-is-known-requires : tie.Need-is-known-requires
-is-known-requires c κs = search needs
+known : (c : tie.Then1) → knownKind (c .before .before .before .before .args .kind) ≡ true
+known c = sym (c .before .is-known .ensures) ∙ c .if1 .taken
 
-depth-of-requires : tie.Need-depth-of-requires
-depth-of-requires c κs = search needs
+judged : (c : tie.After-refusal) → let a = c .before .before .before .before .before .before .args in
+    let d = c .before .depth-of .result in
+    told (c .refusal .result)
+    ≡ refuse (bodyTests d (a .w) (a .h) (a .source .now) headBytes (length (a .target .now))) (plain 0)
+judged c = let a = c .before .before .before .before .before .before .args in
+    body-judged (c .before .depth-of .result) (a .w) (a .h)
+    (a .source .now) headBytes (length (a .target .now)) _
+    (c .refusal .ensures)
 
-judged-requires : tie.Need-judged-requires
-judged-requires c κs = search needs
-
-is-done-requires : tie.Need-is-done-requires
-is-done-requires c κs = search needs
+done : (c : tie.Then2) → isDone (told (c .before .before .refusal .result)) ≡ true
+done c = sym (c .before .is-done .ensures) ∙ c .if2 .taken
 
 put-file-requires : tie.Need-put-file-requires
-put-file-requires c κs = let a = c .before .before .before .before .before .before .before .before .before .args in
-    let known = sym (c .before .before .before .before .before .before .is-known .ensures) ∙ c .before .before .before .before .before .if1 .taken in
-    (known, write-passed (a .kind) (a .w) (a .h) (a .source .now) (a .target .now) known _ (c .before .before .before .before .depth-of .ensures) _ (c .before .before .before .judged .ensures) (sym (c .before .before .is-done .ensures) ∙ c .before .if2 .taken))
-
-same-length : tie.Need-same-length
-same-length c = search needs
+put-file-requires c κs = let t = c .before in
+    let r = t .before .before in
+    let a = r .before .before .before .before .before .before .args in
+    let e = write-answer (a .kind) (a .w) (a .h) (a .source .now)
+    (a .target .now) (known (r .before .before)) _
+    (r .before .depth-of .ensures) _ (judged r) in
+    write-admitted (a .kind) (a .w) (a .h) (a .source .now) (a .target .now) (ap isDone (sym e) ∙ done t)
 
 returns : tie.Need-returns
-returns c = let a = c .before .before .before .before .before .before .before .before .before .before .before .before .args in
-    let known = sym (c .before .before .before .before .before .before .before .before .before .is-known .ensures) ∙ c .before .before .before .before .before .before .before .before .if1 .taken in
-    write-done (a .kind) (a .w) (a .h) (a .source .now) (a .target .now) known _ (c .before .before .before .before .before .before .before .depth-of .ensures) _ (c .before .before .before .before .before .before .judged .ensures) _ (sym (c .before .before .before .before .before .is-done .ensures) ∙ c .before .before .before .before .if2 .taken) (c .before .before .put-file .ensures)
+returns c = let t = c .before .before .before .before in
+    let r = t .before .before in
+    write-done _ _ _ _ _ (known (r .before .before)) _ (r .before .depth-of .ensures) _ (judged r) _ (done t)
+    (c .before .before .put-file .ensures)
 
 returns-2 : tie.Need-returns-2
-returns-2 c = let a = c .before .before .before .before .before .before .before .before .args in
-    let known = sym (c .before .before .before .before .before .is-known .ensures) ∙ c .before .before .before .before .if1 .taken in
-    write-refused (a .kind) (a .w) (a .h) (a .source .now) (a .target .now) known _ (c .before .before .before .depth-of .ensures) _ (c .before .before .judged .ensures) (sym (c .before .is-done .ensures) ∙ c .if2 .left)
+returns-2 c = let r = c .before .before in
+    write-refused _ _ _ _ _ (known (r .before .before)) _ (r .before .depth-of .ensures) _ (judged r)
+    (sym (c .before .is-done .ensures) ∙ c .if2 .left)
 
 returns-3 : tie.Need-returns-3
-returns-3 c = let a = c .before .before .before .before .args in unknown (a .kind) (a .w) (a .h) (a .source .now) (a .target .now) Form refl (sym (c .before .is-known .ensures) ∙ c .if1 .left)
+returns-3 c = unknown _ _ _ _ _ Form refl (sym (c .before .is-known .ensures) ∙ c .if1 .left)
 
 pub write-ech-spec : {M : Type 1} → statement M
 write-ech-spec =
     tie.close
     (tie.spec
-    is-known-requires
-    depth-of-requires
-    judged-requires
-    is-done-requires
+    (λ c κs. search needs)
+    (λ c κs. search needs)
+    (λ c κs. search needs)
+    (λ c κs. search needs)
     put-file-requires
-    same-length
+    (λ c. search needs)
     returns
     returns-2
     returns-3)

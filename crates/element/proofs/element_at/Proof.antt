@@ -1,4 +1,6 @@
-use Rattle.element.proofs.Made.{cells-tell}
+-- Well made cells, which are required, have the four bytes and all rows (`tests`): each read has its byte.
+-- The record is made of what was read: size, origin and row words, each as its own function promises it.
+use Rattle.element.proofs.WellMade.{Cells, cells-tell}
 use Rattle.element.specs.Record.{elementOf}
 use Rattle.picture.specs.Frame.{rowBytes}
 use Rattle.picture.specs.declared.Depth.the-variants.{OneBit}
@@ -9,41 +11,38 @@ use borrow.Author.Needs.{needs}
 use Rattle.element.proofs.element_at.Statement.{statement}
 use Rattle.element.proofs.element_at.Tie as tie
 
-shared-slice-read-size : tie.Need-shared-slice-read-size
-shared-slice-read-size c = let t = cells-tell (c .before .before .args .d .now) (c .before .before .pre) in omega arith
-
-size-requires : tie.Need-size-requires
-size-requires c κs = search needs
-
-shared-slice-read-size-2 : tie.Need-shared-slice-read-size-2
-shared-slice-read-size-2 c = let t = cells-tell (c .before .before .before .before .args .d .now) (c .before .before .before .before .pre) in omega arith
-
-size-requires-2 : tie.Need-size-requires-2
-size-requires-2 c κs = search needs
-
-row-bytes-requires : tie.Need-row-bytes-requires
-row-bytes-requires c κs = search needs
+tests : (c : tie.Start) → Cells (c .args .d .now)
+tests c = cells-tell (c .args .d .now) (c .pre)
 
 words-of-requires : tie.Need-words-of-requires
-words-of-requires c κs = let t = cells-tell (c .before .before .before .before .before .before .args .d .now) (c .before .before .before .before .before .before .pre) in
-    (omega (arith, c .before .size2 .ensures .0), omega (arith, ap₂ (λ m n. 4 + m * n) (c .before .size2 .ensures .0) (c .row-bytes .ensures ∙ ap (rowBytes OneBit) (c .before .before .before .size .ensures .0)), t .rows))
-
-origin-of-requires : tie.Need-origin-of-requires
-origin-of-requires c κs = let t = cells-tell (c .before .before .before .before .before .before .before .args .d .now) (c .before .before .before .before .before .before .before .pre) in t .long
+words-of-requires c κs =
+    let t = tests (c .before .before .before .before .before .before) in
+    let high = c .before .size2 .ensures .0 in
+    let row = c .row-bytes .ensures ∙ ap (rowBytes OneBit) (c .before .before .before .size .ensures .0) in
+    (omega (arith, high, t .few-high), omega (arith, ap₂ (λ m n. 4 + m * n) high row, t .rows))
 
 returns : tie.Need-returns
 unfolding elementOf
-returns c = simp (c .origin-of .ensures, c .before .words-of .ensures, c .before .before .row-bytes .ensures, c .before .before .before .size2 .ensures .0, c .before .before .before .before .before .size .ensures .0)
+returns c =
+    let rows = c .before .before in
+    let high = rows .before in
+    simp (
+      c .origin-of .ensures,
+      c .before .words-of .ensures,
+      rows .row-bytes .ensures,
+      high .size2 .ensures .0,
+      high .before .before .size .ensures .0,
+    )
 
 pub element-at-spec : {M : Type 1} → statement M
 element-at-spec =
     tie.close
     (tie.spec
-    shared-slice-read-size
-    size-requires
-    shared-slice-read-size-2
-    size-requires-2
-    row-bytes-requires
+    (λ c. let t = tests (c .before .before) in omega arith)
+    (λ c κs. search needs)
+    (λ c. let t = tests (c .before .before .before .before) in omega arith)
+    (λ c κs. search needs)
+    (λ c κs. search needs)
     words-of-requires
-    origin-of-requires
+    (λ c κs. tests (c .before .before .before .before .before .before .before) .long)
     returns)

@@ -1,15 +1,27 @@
-use Rattle.element.specs.Descriptor.{headMade}
+-- Six tests in the definition's order, each answered by the comparison that the branch made.
+-- What the tests of w and of h settled is a lemma each (`wide`, `high`), from which the later ones go on.
+use Rattle.element.specs.Descriptor.{mostCells, headMade}
+use lib.Dec.{leb}
+use mathlib.Core.Bool.{true}
+use mathlib.Core.Path.{_≡_}
 use borrow.Author.Tests.{lt-leb, le-leb, le-ltb, lt-ltb}
 use borrow.Author.Needs.{needs}
 use Rattle.element.proofs.head_made.Statement.{statement}
 use Rattle.element.proofs.head_made.Tie as tie
 
+-- 1 ≤ w ≤ 32
+wide : (c : tie.Else2) → let w = c .before .before .before .before .args .w in
+    (leb 1 w ≡ true) × (leb w mostCells ≡ true)
+wide c = (le-leb _ _ (c .before .if1 .left), le-leb _ _ (c .if2 .left))
+
+-- 1 ≤ h ≤ 32
+high : (c : tie.Else4) → let h = c .before .before .before .before .before .before .args .h in
+    (leb 1 h ≡ true) × (leb h mostCells ≡ true)
+high c = (le-leb _ _ (c .before .if3 .left), le-leb _ _ (c .if4 .left))
+
 returns : tie.Need-returns
 unfolding headMade
 returns c = simp (lt-leb _ _ (c .if1 .taken))
-
-cast-if2 : tie.Need-cast-if2
-cast-if2 c = search needs
 
 returns-2 : tie.Need-returns-2
 unfolding headMade
@@ -17,24 +29,37 @@ returns-2 c = simp (le-leb _ _ (c .before .if1 .left), lt-leb _ _ (c .if2 .taken
 
 returns-3 : tie.Need-returns-3
 unfolding headMade
-returns-3 c = simp (le-leb _ _ (c .before .before .if1 .left), le-leb _ _ (c .before .if2 .left), lt-leb _ _ (c .if3 .taken))
-
-cast-if4 : tie.Need-cast-if4
-cast-if4 c = search needs
+returns-3 c = let w = wide (c .before) in simp (w .0, w .1, lt-leb _ _ (c .if3 .taken))
 
 returns-4 : tie.Need-returns-4
 unfolding headMade
-returns-4 c = simp (le-leb _ _ (c .before .before .before .if1 .left), le-leb _ _ (c .before .before .if2 .left), le-leb _ _ (c .before .if3 .left), lt-leb _ _ (c .if4 .taken))
+returns-4 c =
+    let w = wide (c .before .before) in
+    simp (w .0, w .1, le-leb _ _ (c .before .if3 .left), lt-leb _ _ (c .if4 .taken))
 
 returns-5 : tie.Need-returns-5
 unfolding headMade
-returns-5 c = simp (le-leb _ _ (c .before .before .before .before .before .if1 .left), le-leb _ _ (c .before .before .before .before .if2 .left), le-leb _ _ (c .before .before .before .if3 .left), le-leb _ _ (c .before .before .if4 .left), le-ltb _ _ (c .if5 .taken))
+returns-5 c =
+    let h = high (c .before .before) in
+    let w = wide (c .before .before .before .before) in
+    simp (w .0, w .1, h .0, h .1, le-ltb _ _ (c .if5 .taken))
 
 returns-6 : tie.Need-returns-6
 unfolding headMade
-returns-6 c = simp (le-leb _ _ (c .before .before .before .before .before .before .if1 .left), le-leb _ _ (c .before .before .before .before .before .if2 .left), le-leb _ _ (c .before .before .before .before .if3 .left), le-leb _ _ (c .before .before .before .if4 .left), lt-ltb _ _ (c .before .if5 .left))
+returns-6 c =
+    let h = high (c .before .before .before) in
+    let w = wide (c .before .before .before .before .before) in
+    simp (w .0, w .1, h .0, h .1, lt-ltb _ _ (c .before .if5 .left))
 
 pub head-made-spec : {M : Type 1} → statement M
 head-made-spec =
     tie.close
-    (tie.spec returns cast-if2 returns-2 returns-3 cast-if4 returns-4 returns-5 returns-6)
+    (tie.spec
+    returns
+    (λ c. search needs)
+    returns-2
+    returns-3
+    (λ c. search needs)
+    returns-4
+    returns-5
+    returns-6)

@@ -1,3 +1,5 @@
+-- The branch settles whether the cell is set, on which the definition turns.
+-- What is compared after it is the definition's own comparison.
 use borrow.Author.Tests.{eq-eqb, ne-eqb}
 use Rattle.element.proofs.height_made.Statement.{statement}
 use Rattle.element.proofs.height_made.Tie as tie

@@ -1,3 +1,5 @@
+-- It stands on nothing: the record that is made is the definition's, part by part.
+-- So both sides are one and the same.
 use Rattle.element.specs.Record.{nothing}
 use mathlib.Core.Path.{refl}
 use Rattle.element.proofs.no_element.Statement.{statement}

@@ -1,3 +1,5 @@
+-- The flag settles which of the two the answer and the element are.
+-- Where it is set the cells are well made, by what is required, so that the element can be made.
 use Rattle.answer.specs.Answer.{told}
 use mathlib.Core.Path.{_∙_}
 use borrow.Author.Needs.{needs}
@@ -11,12 +13,9 @@ returns : tie.Need-returns
 unfolding told
 returns c = (simp (c .before .if1 .taken), c .element-at .ensures ∙ simp (c .before .if1 .taken))
 
-no-element-requires : tie.Need-no-element-requires
-no-element-requires c κs = search needs
-
 returns-2 : tie.Need-returns-2
 unfolding told
 returns-2 c = (simp (c .before .if1 .left), c .no-element .ensures ∙ simp (c .before .if1 .left))
 
 pub read-if-spec : {M : Type 1} → statement M
-read-if-spec = tie.close (tie.spec element-at-requires returns no-element-requires returns-2)
+read-if-spec = tie.close (tie.spec element-at-requires returns (λ c κs. search needs) returns-2)

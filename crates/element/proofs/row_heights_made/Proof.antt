@@ -1,9 +1,11 @@
+-- Invariant: the heights of the columns before c are well made; c goes up to w, so that w - c falls.
+-- A column's answer is the definition's test of it (`column`), so that the first bad one settles the row.
 use Rattle.element.specs.Descriptor.{heightMade, heightMadeAt, heightsMadeIn}
 use Rattle.basics.proofs.Tests.{all-none, all-more, all-stop, all-done}
 use Rattle.basics.specs.Tests.{all}
 use lib.Dec.{eqb}
-use Prim.Native.Nat.{_≤_, _-_}
-use mathlib.Core.Bool.{true}
+use Prim.Native.Nat.{ℕ, _≤_, _-_}
+use mathlib.Core.Bool.{Bool, true}
 use mathlib.Core.Path.{_≡_, sym, ap₂, _∙_}
 use borrow.Author.Needs.{needs}
 use native.Mathlib.Omega.{arith}
@@ -16,37 +18,44 @@ Inv-loop cells heights w row c₀ c = (c ≤ w) × (all (heightMadeAt cells heig
 abbrev μ-loop : tie.MeasureT-loop
 μ-loop cells heights w row c₀ c = w - c
 
-loop-holds : tie.Need-loop-holds Inv-loop μ-loop
-loop-holds c = (search needs, all-none _)
+-- one column
+abbrev start : tie.In-loop Inv-loop μ-loop → tie.Start Inv-loop μ-loop
+start c = c .before .before .before .before
 
-cast-t10 : tie.Need-cast-t10 Inv-loop μ-loop
-cast-t10 c = omega arith
+abbrev inside : tie.After-height-made Inv-loop μ-loop → tie.In-loop Inv-loop μ-loop
+inside c = c .before .before .before
+
+abbrev test : tie.In-loop Inv-loop μ-loop → ℕ → Bool
+test c = let a = start c .args in heightMadeAt (a .cells .now) (a .heights .now) (a .w) (a .row .0)
+
+column : (c : tie.After-height-made Inv-loop μ-loop)
+    → c .height-made .result ≡ test (inside c) (inside c .before .loop .c)
+unfolding heightMadeAt
+column c =
+    c .height-made .ensures
+    ∙ ap₂ (λ n g. heightMade (eqb n 1) g) (c .before .before .value .ensures) (c .before .value2 .ensures)
 
 value-requires : tie.Need-value-requires Inv-loop μ-loop
-value-requires c κs = let p = c .before .before .before .before .pre in record { few-pings = omega arith; column = c .loop-test .taken; row = p .cells-row }
+value-requires c κs =
+    record { few-pings = omega arith; column = c .loop-test .taken; row = start c .pre .cells-row }
 
 value-requires-2 : tie.Need-value-requires-2 Inv-loop μ-loop
-value-requires-2 c κs = let p = c .before .before .before .before .before .pre in record { few-pings = omega arith; column = c .before .loop-test .taken; row = p .heights-row }
-
-height-made-requires : tie.Need-height-made-requires Inv-loop μ-loop
-height-made-requires c κs = tt
-
-add-c : tie.Need-add-c Inv-loop μ-loop
-add-c c = search needs
-
-loop-less : tie.Need-loop-less Inv-loop μ-loop
-loop-less c = search needs
+value-requires-2 c κs =
+    let p = start (c .before) .pre in
+    record { few-pings = p .few-pings; column = c .before .loop-test .taken; row = p .heights-row }
 
 loop-again : tie.Need-loop-again Inv-loop μ-loop
-unfolding heightMadeAt
-loop-again c = let l = c .before .before .before .before .before .loop in
-    (search needs, all-more _ (l .c) (l .inv .1) (ap₂ (λ n g. heightMade (eqb n 1) g) (sym (c .before .before .before .value .ensures)) (sym (c .before .before .value2 .ensures)) ∙ sym (c .before .height-made .ensures) ∙ c .if1 .taken))
+loop-again c =
+    let p = inside (c .before) in
+    let l = p .before .loop in
+    (search needs, all-more (test p) (l .c) (l .inv .1) (sym (column (c .before)) ∙ c .if1 .taken))
 
 returns : tie.Need-returns Inv-loop μ-loop
-unfolding heightsMadeIn heightMadeAt
-returns c = let l = c .before .before .before .before .before .loop in
-    let a = c .before .before .before .before .before .before .before .before .args in
-    sym (all-stop (heightMadeAt (a .cells .now) (a .heights .now) (a .w) (a .row .0)) (l .c) (a .w) (c .before .before .before .before .loop-test .taken) (ap₂ (λ n g. heightMade (eqb n 1) g) (sym (c .before .before .before .value .ensures)) (sym (c .before .before .value2 .ensures)) ∙ sym (c .before .height-made .ensures) ∙ c .if1 .left))
+unfolding heightsMadeIn
+returns c =
+    let p = inside (c .before) in
+    sym (all-stop (test p) (p .before .loop .c) (start p .args .w) (p .loop-test .taken)
+    (sym (column (c .before)) ∙ c .if1 .left))
 
 returns-2 : tie.Need-returns-2 Inv-loop μ-loop
 unfolding heightsMadeIn
@@ -58,13 +67,13 @@ row-heights-made-spec =
     (tie.spec
     Inv-loop
     μ-loop
-    loop-holds
-    cast-t10
+    (λ c. (search needs, all-none _))
+    (λ c. omega arith)
     value-requires
     value-requires-2
-    height-made-requires
-    add-c
-    loop-less
+    (λ c κs. tt)
+    (λ c. search needs)
+    (λ c. search needs)
     loop-again
     returns
     returns-2)

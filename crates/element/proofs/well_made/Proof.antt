@@ -1,35 +1,30 @@
-use Rattle.element.proofs.Made.{cells-tell}
-use Rattle.element.specs.Descriptor.{cellsEnd, wellMade}
+-- Stands on cells_made: well made cells have four bytes, so that w and h can be read (`made`).
+-- What is left of the definition is the length, and cells_end has it of the two bytes that were read.
+use Rattle.element.proofs.WellMade.{cells-tell}
+use Rattle.element.specs.Descriptor.{cellsEnd, cellsMade, wellMade}
 use lib.ListN.{length}
 use lib.Dec.{eqb}
-use mathlib.Core.Path.{sym, ap, ap₂, _∙_}
+use mathlib.Core.Bool.{true}
+use mathlib.Core.Path.{_≡_, sym, ap, ap₂, _∙_}
 use native.Mathlib.Omega.{arith}
 use borrow.Author.Needs.{needs}
 use Rattle.element.proofs.well_made.Statement.{statement}
 use Rattle.element.proofs.well_made.Tie as tie
 
-cells-made-requires : tie.Need-cells-made-requires
-cells-made-requires c κs = search needs
+abbrev start : tie.Then1 → tie.Start
+start c = c .before .before .before
 
-shared-slice-read-size : tie.Need-shared-slice-read-size
-shared-slice-read-size c = let t = cells-tell (c .before .before .before .before .args .d .now) (sym (c .before .before .cells-made .ensures) ∙ c .before .if1 .taken) in omega arith
-
-size-requires : tie.Need-size-requires
-size-requires c κs = search needs
-
-shared-slice-read-size-2 : tie.Need-shared-slice-read-size-2
-shared-slice-read-size-2 c = let t = cells-tell (c .before .before .before .before .before .before .args .d .now) (sym (c .before .before .before .before .cells-made .ensures) ∙ c .before .before .before .if1 .taken) in omega arith
-
-size-requires-2 : tie.Need-size-requires-2
-size-requires-2 c κs = search needs
-
-cells-end-requires : tie.Need-cells-end-requires
-cells-end-requires c κs = (c .before .before .size .ensures .1, c .size2 .ensures .1)
+made : (c : tie.Then1) → cellsMade (start c .args .d .now) ≡ true
+made c = sym (c .before .cells-made .ensures) ∙ c .if1 .taken
 
 returns : tie.Need-returns
 unfolding wellMade
-returns c = let d = c .before .before .before .before .before .before .before .before .args .d .now in
-    ap (eqb (length d)) (c .cells-end .ensures ∙ ap₂ cellsEnd (c .before .before .before .size .ensures .0) (c .before .size2 .ensures .0)) ∙ simp (sym (c .before .before .before .before .before .before .cells-made .ensures) ∙ c .before .before .before .before .before .if1 .taken)
+returns c =
+    let p = c .before .before .before .before .before in
+    ap (eqb (length (start p .args .d .now)))
+    (c .cells-end .ensures
+    ∙ ap₂ cellsEnd (c .before .before .before .size .ensures .0) (c .before .size2 .ensures .0))
+    ∙ simp (made p)
 
 returns-2 : tie.Need-returns-2
 unfolding wellMade
@@ -39,11 +34,11 @@ pub well-made-spec : {M : Type 1} → statement M
 well-made-spec =
     tie.close
     (tie.spec
-    cells-made-requires
-    shared-slice-read-size
-    size-requires
-    shared-slice-read-size-2
-    size-requires-2
-    cells-end-requires
+    (λ c κs. search needs)
+    (λ c. let t = cells-tell _ (made (c .before)) in omega arith)
+    (λ c κs. search needs)
+    (λ c. let t = cells-tell _ (made (c .before .before .before)) in omega arith)
+    (λ c κs. search needs)
+    (λ c κs. (c .before .before .size .ensures .1, c .size2 .ensures .1))
     returns
     returns-2)

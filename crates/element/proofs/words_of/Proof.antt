@@ -1,12 +1,14 @@
-use Rattle.element.specs.Record.{rowWord, rowWords}
+-- Invariant: the words before r are those of their rows, and those from r on are 0 yet; h - r falls.
+-- Row r lies within the bytes, because r is below h (`room`).
+use Rattle.element.specs.Steps.Words.{rowWord, rowWords}
 use Rattle.element.specs.Descriptor.{mostCells}
 use Rattle.picture.proofs.Sizes.{row-room}
-use Rattle.basics.proofs.Lists.{fill-none, fill-more}
+use Rattle.basics.proofs.Lists.{fill-none, fill-store}
 use Rattle.basics.specs.Lists.{firsts}
-use lib.ListN.{set, replicate}
-use Prim.Native.Nat.{_≤_, _-_}
+use lib.ListN.{replicate}
+use Prim.Native.Nat.{_+_, _*_, _≤_, _-_}
 use mathlib.Core.List.{_++_}
-use mathlib.Core.Path.{_≡_, ap₂, _∙_}
+use mathlib.Core.Path.{_≡_, _∙_}
 use borrow.Author.Needs.{needs}
 use native.Mathlib.Omega.{arith}
 use Rattle.element.proofs.words_of.Statement.{statement}
@@ -18,35 +20,19 @@ Inv-loop d n h rows₀ r₀ rows r = (r ≤ h) × (rows ≡ firsts (rowWord d n)
 abbrev μ-loop : tie.MeasureT-loop
 μ-loop d n h rows₀ r₀ rows r = h - r
 
-loop-holds : tie.Need-loop-holds Inv-loop μ-loop
-loop-holds c = (search needs, fill-none _ mostCells 0)
-
-mul-at : tie.Need-mul-at Inv-loop μ-loop
-mul-at c = omega (arith, row-room (c .before .before .before .args .n) (c .loop-test .taken))
-
-add-at : tie.Need-add-at Inv-loop μ-loop
-add-at c = omega (arith, row-room (c .before .before .before .args .n) (c .loop-test .taken))
-
-word-at-requires : tie.Need-word-at-requires Inv-loop μ-loop
-word-at-requires c κs = omega (arith, row-room (c .before .before .before .args .n) (c .loop-test .taken))
-
-mul-rows : tie.Need-mul-rows Inv-loop μ-loop
-mul-rows c = omega arith
-
-array-write-rows : tie.Need-array-write-rows Inv-loop μ-loop
-array-write-rows c = omega arith
-
-add-r : tie.Need-add-r Inv-loop μ-loop
-add-r c = omega arith
-
-loop-less : tie.Need-loop-less Inv-loop μ-loop
-loop-less c = omega arith
+room : (c : tie.In-loop Inv-loop μ-loop) → let a = c .before .before .before .args in
+    c .before .loop .r * a .n + a .n ≤ a .h * a .n
+room c = row-room (c .before .before .before .args .n) (c .loop-test .taken)
 
 loop-again : tie.Need-loop-again Inv-loop μ-loop
 unfolding rowWord
-loop-again c = let l = c .before .before .loop in
-    let a = c .before .before .before .before .args in
-    (search needs, ap₂ (λ t v. set t (l .r) v) (l .inv .1) (c .word-at .ensures) ∙ fill-more (rowWord (a .d .now) (a .n)) mostCells 0 (l .r) (omega arith))
+loop-again c =
+    let l = c .before .before .loop in
+    let a = c .before .before .before .before .args in (
+      search needs,
+      fill-store (rowWord (a .d .now) (a .n)) mostCells 0 (l .r) _ _ (omega arith)
+          (l .inv .1) (c .word-at .ensures),
+    )
 
 returns : tie.Need-returns Inv-loop μ-loop
 unfolding rowWords
@@ -59,13 +45,13 @@ words-of-spec =
     (tie.spec
     Inv-loop
     μ-loop
-    loop-holds
-    mul-at
-    add-at
-    word-at-requires
-    mul-rows
-    array-write-rows
-    add-r
-    loop-less
+    (λ c. (search needs, fill-none _ mostCells 0))
+    (λ c. omega (arith, room c))
+    (λ c. omega (arith, room c))
+    (λ c κs. omega (arith, room c))
+    (λ c. omega arith)
+    (λ c. omega arith)
+    (λ c. omega arith)
+    (λ c. omega arith)
     loop-again
     returns)

@@ -1,59 +1,66 @@
-use Rattle.hit.proofs.Hit.{hit-row, ready-over, front-length, front-back, front-back-length, front-in}
-use mathlib.Core.Path.{sym, _∙_}
+-- Two rows of `bitrow`, the miss row of the picture turned over: a bit is in the result where both have it.
+-- The miss row is the front of an array for the longest packed row, as long as the hit row.
+use Rattle.hit.proofs.Hit.{hit-row, front-length, front-back, front-back-length, front-in}
+use Rattle.picture.specs.declared.Depth.the-variants.{OneBit}
+use Rattle.picture.specs.Frame.{rowBytes}
+use lib.ListN.{length}
+use mathlib.Core.Path.{_≡_, sym, _∙_}
 use borrow.Author.Needs.{needs}
 use Rattle.hit.proofs.hit_row.Statement.{statement}
 use Rattle.hit.proofs.hit_row.Tie as tie
 
-slice-aggregate-make-row : tie.Need-slice-aggregate-make-row
-slice-aggregate-make-row c = search needs
+-- after the hit row: its bytes are as many as they were
+abbrev entry : tie.After-make-row → tie.Start
+entry c = c .before .before .before .before .before .before
 
-make-row-requires : tie.Need-make-row-requires
-make-row-requires c κs = search needs
-
-array-borrow-prefix-row : tie.Need-array-borrow-prefix-row
-array-borrow-prefix-row c = search needs
-
-slice-aggregate-make-row-2 : tie.Need-slice-aggregate-make-row-2
-slice-aggregate-make-row-2 c = let p = c .before .before .before .before .before .before .before .before .before .before .pre in sym (front-length _ (c .before .before .before .before .before .before .before .before .before .before .args .w) (p .0 .few-pings) (c .before .before .before .make-row .kept .1 .0 ∙ p .1 .1 .0))
-
-slice-aggregate-make-row-3 : tie.Need-slice-aggregate-make-row-3
-slice-aggregate-make-row-3 c = search needs
+long : (c : tie.After-make-row) → length (c .make-row .last .1 .0) ≡ rowBytes OneBit (entry c .args .w)
+long c = c .make-row .kept .1 .0 ∙ entry c .pre .1 .1 .0
 
 make-row-requires-2 : tie.Need-make-row-requires-2
-make-row-requires-2 c κs = let p = c .before .before .before .before .before .before .before .before .before .before .before .pre in
-    let e = c .before .before .before .before .make-row .kept .1 .0 ∙ p .1 .1 .0 in
-    (ready-over (p .1 .0), (front-length _ (c .before .before .before .before .before .before .before .before .before .before .before .args .w) (p .0 .few-pings) e ∙ e, p .1 .1 .1))
+make-row-requires-2 c κs =
+    let e = c .before .before .before in
+    let p = entry e .pre in
+    (p .1 .0, (front-length _ (entry e .args .w) (p .0 .few-pings) (long e) ∙ long e, p .1 .1 .1))
 
 array-share-prefix-row : tie.Need-array-share-prefix-row
-array-share-prefix-row c = let p = c .before .before .before .before .before .before .before .before .before .before .before .before .before .before .pre in front-in _ (c .before .before .before .before .before .before .before .before .before .before .before .before .before .before .args .w) (p .0 .few-pings) (c .before .before .before .before .before .before .before .make-row .kept .1 .0 ∙ p .1 .1 .0) (c .before .before .make-row2 .last .1 .0) (c .before .before .make-row2 .kept .1 .0)
+array-share-prefix-row c =
+    let e = c .before .before .before .before .before .before in
+    let r = c .before .before .make-row2 in
+    front-in _ (entry e .args .w) (entry e .pre .0 .few-pings) (long e) (r .last .1 .0) (r .kept .1 .0)
 
-slice-aggregate-keep-both : tie.Need-slice-aggregate-keep-both
-slice-aggregate-keep-both c = let p = c .before .before .before .before .before .before .before .before .before .before .before .before .before .before .before .pre in sym (front-back-length _ (c .before .before .before .before .before .before .before .before .before .before .before .before .before .before .before .args .w) (p .0 .few-pings) (c .before .before .before .before .before .before .before .before .make-row .kept .1 .0 ∙ p .1 .1 .0) (c .before .before .before .make-row2 .last .1 .0) (c .before .before .before .make-row2 .kept .1 .0))
-
-keep-both-requires : tie.Need-keep-both-requires
-keep-both-requires c κs = let p = c .before .before .before .before .before .before .before .before .before .before .before .before .before .before .before .pre in front-back-length _ (c .before .before .before .before .before .before .before .before .before .before .before .before .before .before .before .args .w) (p .0 .few-pings) (c .before .before .before .before .before .before .before .before .make-row .kept .1 .0 ∙ p .1 .1 .0) (c .before .before .before .make-row2 .last .1 .0) (c .before .before .before .make-row2 .kept .1 .0)
-
-same-length : tie.Need-same-length
-same-length c = search needs
+meet-requires : tie.Need-meet-requires
+meet-requires c κs =
+    let e = c .before .before .before .before .before .before .before in
+    let r = c .before .before .before .make-row2 in
+    front-back-length _ (entry e .args .w) (entry e .pre .0 .few-pings)
+    (long e) (r .last .1 .0) (r .kept .1 .0)
 
 returns : tie.Need-returns
-returns c = let p = c .before .before .before .before .before .before .before .before .before .before .before .before .before .before .before .before .before .before .pre in
-    let a = c .before .before .before .before .before .before .before .before .before .before .before .before .before .before .before .before .before .before .args in
-    let e = front-back _ (a .w) (p .0 .few-pings) (c .before .before .before .before .before .before .before .before .before .before .before .make-row .kept .1 .0 ∙ p .1 .1 .0) (c .before .before .before .before .before .before .make-row2 .last .1 .0) (c .before .before .before .before .before .before .make-row2 .kept .1 .0) in
-    hit-row (a .s .now) (a .w) (a .h) (a .hit) (a .hits .now) (a .miss) (a .misses .now) (a .y .0) _ _ _ _ (c .before .before .before .before .before .before .before .before .before .before .before .make-row .ensures) (e ∙ c .before .before .before .before .before .before .make-row2 .ensures) (c .before .before .keep-both .ensures)
+returns c =
+    let e = c .before .before .before .before .before .before .before .before .before .before in
+    let r = c .before .before .before .before .before .before .make-row2 in
+    let a = entry e .args in
+    hit-row (a .s .now) (a .w) (a .h) (a .hit) (a .hits .now)
+    (a .miss) (a .misses .now) (a .y .0) _ _ _ (e .make-row .ensures)
+    (front-back _ (a .w) (entry e .pre .0 .few-pings) (long e) (r .last .1 .0) (r .kept .1 .0) ∙ r .ensures)
+    (c .before .before .meet .ensures)
 
 pub hit-row-spec : {M : Type 1} → statement M
 hit-row-spec =
     tie.close
     (tie.spec
-    slice-aggregate-make-row
-    make-row-requires
-    array-borrow-prefix-row
-    slice-aggregate-make-row-2
-    slice-aggregate-make-row-3
+    (λ c κs. search needs)
+    (λ c. search needs)
+    (λ c.
+    let e = c .before .before .before in
+    sym (front-length _ (entry e .args .w) (entry e .pre .0 .few-pings) (long e)))
     make-row-requires-2
     array-share-prefix-row
-    slice-aggregate-keep-both
-    keep-both-requires
-    same-length
+    (λ c.
+    let e = c .before .before .before .before .before .before .before in
+    let r = c .before .before .before .make-row2 in
+    sym (front-back-length _ (entry e .args .w)
+    (entry e .pre .0 .few-pings) (long e) (r .last .1 .0) (r .kept .1 .0)))
+    meet-requires
+    (λ c. search needs)
     returns)

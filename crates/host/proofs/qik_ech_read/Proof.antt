@@ -1,24 +1,18 @@
+-- Stands on ech::read_ech: what it gives back is small whether it read or refused, so that it can be packed.
+-- The packed number is then the definition's, part by part; the target is that call's own.
 use mathlib.Core.Path.{_∙_}
-use Rattle.host.proofs.Few.{few-read, read-packed}
+use Rattle.host.proofs.ReadPacked.{read-packable, read-packed}
 use borrow.Author.Needs.{needs}
 use Rattle.host.proofs.qik_ech_read.Statement.{statement}
 use Rattle.host.proofs.qik_ech_read.Tie as tie
 
-read-ech-requires : tie.Need-read-ech-requires
-read-ech-requires c κs = search needs
-
-pack-requires : tie.Need-pack-requires
-pack-requires c κs = search needs
-
-pack-read-requires : tie.Need-pack-read-requires
-pack-read-requires c κs = few-read _ _ _ (c .before .before .before .read-ech .ensures .0)
-
-same-length : tie.Need-same-length
-same-length c = search needs
-
 returns : tie.Need-returns
-returns c = (c .pack-read .ensures ∙ read-packed _ _ _ _ (c .before .pack .ensures) (c .before .before .before .before .read-ech .ensures .0), c .before .before .before .before .read-ech .ensures .1)
+returns c =
+    let e = c .before .before .before .before .read-ech .ensures in
+    (c .pack-read .ensures ∙ read-packed _ _ _ _ (c .before .pack .ensures) (e .0), e .1)
 
 pub qik-ech-read-spec : {M : Type 1} → statement M
 qik-ech-read-spec =
-    tie.close (tie.spec read-ech-requires pack-requires pack-read-requires same-length returns)
+    tie.close (tie.spec (λ c κs. search needs) (λ c κs. search needs)
+    (λ c κs. read-packable _ _ _ (c .before .before .before .read-ech .ensures .0))
+    (λ c. search needs) returns)

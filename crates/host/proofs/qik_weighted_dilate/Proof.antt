@@ -1,20 +1,16 @@
+-- It passes on what weighted::dilate returns: the target is that call's own.
+-- The number is its answer packed: what the answer is told as is known, and `pack` packs that.
 use mathlib.Core.Path.{ap, _∙_}
 use Rattle.answer.specs.Packed.{packed}
 use borrow.Author.Needs.{needs}
 use Rattle.host.proofs.qik_weighted_dilate.Statement.{statement}
 use Rattle.host.proofs.qik_weighted_dilate.Tie as tie
 
-dilate-requires : tie.Need-dilate-requires
-dilate-requires c κs = search needs
-
-pack-requires : tie.Need-pack-requires
-pack-requires c κs = search needs
-
-same-length : tie.Need-same-length
-same-length c = search needs
-
 returns : tie.Need-returns
-returns c = (c .pack .ensures ∙ ap packed (c .before .before .before .dilate .ensures .0), c .before .before .before .dilate .ensures .1)
+returns c =
+    let e = c .before .before .before .dilate .ensures in
+    (c .pack .ensures ∙ ap packed (e .0), e .1)
 
 pub qik-weighted-dilate-spec : {M : Type 1} → statement M
-qik-weighted-dilate-spec = tie.close (tie.spec dilate-requires pack-requires same-length returns)
+qik-weighted-dilate-spec =
+    tie.close (tie.spec (λ c κs. search needs) (λ c κs. search needs) (λ c. search needs) returns)

@@ -1,23 +1,17 @@
+-- It passes on what weighted::open returns: target and scratch are that call's own.
+-- The number is its answer packed: what the answer is told as is known, and `pack` packs that.
 use mathlib.Core.Path.{ap, _∙_}
 use Rattle.answer.specs.Packed.{packed}
 use borrow.Author.Needs.{needs}
 use Rattle.host.proofs.qik_weighted_open.Statement.{statement}
 use Rattle.host.proofs.qik_weighted_open.Tie as tie
 
-open-requires : tie.Need-open-requires
-open-requires c κs = search needs
-
-pack-requires : tie.Need-pack-requires
-pack-requires c κs = search needs
-
-same-length : tie.Need-same-length
-same-length c = search needs
-
-same-length-2 : tie.Need-same-length-2
-same-length-2 c = search needs
-
 returns : tie.Need-returns
-returns c = (c .pack .ensures ∙ ap packed (c .before .before .before .before .before .«open» .ensures .0), c .before .before .before .before .before .«open» .ensures .1)
+returns c =
+    let e = c .before .before .before .before .before .«open» .ensures in
+    (c .pack .ensures ∙ ap packed (e .0), e .1)
 
 pub qik-weighted-open-spec : {M : Type 1} → statement M
-qik-weighted-open-spec = tie.close (tie.spec open-requires pack-requires same-length same-length-2 returns)
+qik-weighted-open-spec =
+    tie.close (tie.spec (λ c κs. search needs) (λ c κs. search needs)
+    (λ c. search needs) (λ c. search needs) returns)

@@ -1,4 +1,6 @@
-use Rattle.job.specs.Parts.{defaultElement}
+-- The eight bytes are the definition's.
+-- Nothing is asked.
+use Rattle.job.specs.Job.{defaultElement}
 use mathlib.Core.Path.{refl}
 use Rattle.job.proofs.default_element.Statement.{statement}
 use Rattle.job.proofs.default_element.Tie as tie

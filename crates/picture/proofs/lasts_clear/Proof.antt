@@ -1,3 +1,5 @@
+-- Invariant: the last bytes of the rows before y are multiples of m.
+-- What falls: the rows that are left; a row that is not clear ends the loop.
 use Rattle.picture.proofs.Sizes.{row-room}
 use Rattle.picture.specs.Bytes.{lastClear, lastsClear}
 use Rattle.basics.proofs.Tests.{all-none, all-more, all-stop, all-done}
@@ -23,30 +25,22 @@ loop-holds c = (search needs, all-none _)
 mul-last : tie.Need-mul-last Inv-loop μ-loop
 mul-last c = omega (arith, row-room (c .before .before .args .n) (c .loop-test .taken))
 
-sub-last : tie.Need-sub-last Inv-loop μ-loop
-sub-last c = omega arith
-
 add-last : tie.Need-add-last Inv-loop μ-loop
 add-last c = omega (arith, row-room (c .before .before .args .n) (c .loop-test .taken))
 
 shared-slice-read-if1 : tie.Need-shared-slice-read-if1 Inv-loop μ-loop
-shared-slice-read-if1 c = omega (arith, row-room (c .before .before .before .args .n) (c .before .loop-test .taken))
-
-rem-if1 : tie.Need-rem-if1 Inv-loop μ-loop
-rem-if1 c = omega arith
+shared-slice-read-if1 c =
+    omega (arith, row-room (c .before .before .before .args .n) (c .before .loop-test .taken))
 
 returns : tie.Need-returns Inv-loop μ-loop
 unfolding lastsClear
-returns c = let a = c .before .before .before .before .args in sym (all-stop (lastClear (a .s .now) (a .n) (a .m)) (c .before .before .before .loop .y) (a .h) (c .before .before .loop-test .taken) (ne-eqb _ _ (c .if1 .taken)))
-
-add-y : tie.Need-add-y Inv-loop μ-loop
-add-y c = omega arith
-
-loop-less : tie.Need-loop-less Inv-loop μ-loop
-loop-less c = omega arith
+returns c = let a = c .before .before .before .before .args in
+    sym (all-stop (lastClear (a .s .now) (a .n) (a .m)) (c .before .before .before .loop .y)
+    (a .h) (c .before .before .loop-test .taken) (ne-eqb _ _ (c .if1 .taken)))
 
 loop-again : tie.Need-loop-again Inv-loop μ-loop
-loop-again c = let l = c .before .before .before .loop in (search needs, all-more _ (l .y) (l .inv .1) (eq-eqb _ _ (c .if1 .left)))
+loop-again c = let l = c .before .before .before .loop in
+    (search needs, all-more _ (l .y) (l .inv .1) (eq-eqb _ _ (c .if1 .left)))
 
 returns-2 : tie.Need-returns-2 Inv-loop μ-loop
 unfolding lastsClear
@@ -60,12 +54,12 @@ lasts-clear-spec =
     μ-loop
     loop-holds
     mul-last
-    sub-last
+    (λ c. search needs)
     add-last
     shared-slice-read-if1
-    rem-if1
+    (λ c. search needs)
     returns
-    add-y
-    loop-less
+    (λ c. search needs)
+    (λ c. search needs)
     loop-again
     returns-2)

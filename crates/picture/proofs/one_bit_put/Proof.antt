@@ -1,11 +1,10 @@
+-- Stands on mask_of: the bit alone is cleared or set, by the value.
+-- Each arm is the definition's, at the mask that mask_of gives.
 use Rattle.picture.specs.Points.{putIn}
 use borrow.Author.Tests.{eq-eqb, ne-eqb}
 use borrow.Author.Needs.{needs}
 use Rattle.picture.proofs.one_bit_put.Statement.{statement}
 use Rattle.picture.proofs.one_bit_put.Tie as tie
-
-mask-of-requires : tie.Need-mask-of-requires
-mask-of-requires c κs = search needs
 
 returns : tie.Need-returns
 unfolding putIn
@@ -16,4 +15,4 @@ unfolding putIn
 returns-2 c = simp (ne-eqb _ _ (c .if1 .left), c .before .mask-of .ensures)
 
 pub one-bit-put-spec : {M : Type 1} → statement M
-one-bit-put-spec = tie.close (tie.spec mask-of-requires returns returns-2)
+one-bit-put-spec = tie.close (tie.spec (λ c κs. search needs) returns returns-2)

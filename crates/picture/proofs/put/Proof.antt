@@ -1,3 +1,5 @@
+-- Stands on byte_of and put_in: one byte is read, changed in one column and stored.
+-- The point lies in the picture, and so its byte lies in the buffer.
 use Rattle.picture.proofs.Sizes.{column-in}
 use Rattle.picture.specs.Points.{putAt}
 use native.Mathlib.Omega.{arith}
@@ -5,20 +7,19 @@ use borrow.Author.Needs.{needs}
 use Rattle.picture.proofs.put.Statement.{statement}
 use Rattle.picture.proofs.put.Tie as tie
 
-byte-of-requires : tie.Need-byte-of-requires
-byte-of-requires c κs = search needs
-
 slice-read-put-in : tie.Need-slice-read-put-in
-slice-read-put-in c = let a = c .before .before .before .args in omega (arith, c .before .byte-of .ensures, column-in (a .depth) (a .p .ping .0) (a .w) (c .before .before .before .pre .column))
-
-put-in-requires : tie.Need-put-in-requires
-put-in-requires c κs = search needs
+slice-read-put-in c = let a = c .before .before .before .args in omega (
+  arith,
+  c .before .byte-of .ensures,
+  column-in (a .depth) (a .p .ping .0) (a .w) (c .before .before .before .pre .column),
+)
 
 slice-write-t : tie.Need-slice-write-t
-slice-write-t c = let a = c .before .before .before .before .args in omega (arith, c .before .before .byte-of .ensures, column-in (a .depth) (a .p .ping .0) (a .w) (c .before .before .before .before .pre .column))
-
-same-length : tie.Need-same-length
-same-length c = search needs
+slice-write-t c = let a = c .before .before .before .before .args in omega (
+  arith,
+  c .before .before .byte-of .ensures,
+  column-in (a .depth) (a .p .ping .0) (a .w) (c .before .before .before .before .pre .column),
+)
 
 returns : tie.Need-returns
 unfolding putAt
@@ -27,4 +28,5 @@ returns c = simp (c .put-in .ensures, c .before .before .byte-of .ensures)
 pub put-spec : {M : Type 1} → statement M
 put-spec =
     tie.close
-    (tie.spec byte-of-requires slice-read-put-in put-in-requires slice-write-t same-length returns)
+    (tie.spec (λ c κs. search needs) slice-read-put-in
+    (λ c κs. search needs) slice-write-t (λ c. search needs) returns)

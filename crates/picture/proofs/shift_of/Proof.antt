@@ -1,3 +1,5 @@
+-- The low three bits of a column are its remainder by 8.
+-- So it is at most 7, and the difference does not wrap.
 use lib.Bits.{and-le-r, and-mask}
 use mathlib.Core.Path.{ap}
 use Prim.Native.Nat.{_-_}

@@ -1,3 +1,5 @@
+-- Stands on byte_of and value_in: one byte is read.
+-- The point lies in the picture, and so its byte lies in the buffer.
 use Rattle.picture.proofs.Sizes.{column-in}
 use Rattle.picture.specs.Points.{valueAt}
 use mathlib.Core.Path.{_∙_}
@@ -6,14 +8,12 @@ use borrow.Author.Needs.{needs}
 use Rattle.picture.proofs.value.Statement.{statement}
 use Rattle.picture.proofs.value.Tie as tie
 
-byte-of-requires : tie.Need-byte-of-requires
-byte-of-requires c κs = search needs
-
 shared-slice-read-value-in : tie.Need-shared-slice-read-value-in
-shared-slice-read-value-in c = let a = c .before .before .before .args in omega (arith, c .before .byte-of .ensures, column-in (a .depth) (a .p .ping .0) (a .w) (c .before .before .before .pre .column))
-
-value-in-requires : tie.Need-value-in-requires
-value-in-requires c κs = search needs
+shared-slice-read-value-in c = let a = c .before .before .before .args in omega (
+  arith,
+  c .before .byte-of .ensures,
+  column-in (a .depth) (a .p .ping .0) (a .w) (c .before .before .before .pre .column),
+)
 
 returns : tie.Need-returns
 unfolding valueAt
@@ -21,4 +21,4 @@ returns c = c .value-in .ensures ∙ simp (c .before .before .byte-of .ensures)
 
 pub value-spec : {M : Type 1} → statement M
 value-spec =
-    tie.close (tie.spec byte-of-requires shared-slice-read-value-in value-in-requires returns)
+    tie.close (tie.spec (λ c κs. search needs) shared-slice-read-value-in (λ c κs. search needs) returns)

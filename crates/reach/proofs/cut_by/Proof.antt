@@ -1,54 +1,36 @@
-use Rattle.reach.specs.Boards.{cutOf}
+-- Each end of the cut is the box's own end with the origins added,
+-- clipped to the board: four calls, side by side.
+-- The sums of origins and the bounds are small, so that no sum wraps.
 use borrow.Author.Needs.{needs}
+use Rattle.reach.specs.Steps.Boards.{cutOf}
 use Rattle.reach.proofs.cut_by.Statement.{statement}
 use Rattle.reach.proofs.cut_by.Tie as tie
 
-add-held : tie.Need-add-held
-add-held c = search needs
-
-held-requires : tie.Need-held-requires
-held-requires c κs = search needs
-
-add-held-2 : tie.Need-add-held-2
-add-held-2 c = search needs
-
-add-held-3 : tie.Need-add-held-3
-add-held-3 c = search needs
-
-held-requires-2 : tie.Need-held-requires-2
-held-requires-2 c κs = search needs
-
-add-held-4 : tie.Need-add-held-4
-add-held-4 c = search needs
-
-held-requires-3 : tie.Need-held-requires-3
-held-requires-3 c κs = search needs
-
-add-held-5 : tie.Need-add-held-5
-add-held-5 c = search needs
-
-add-held-6 : tie.Need-add-held-6
-add-held-6 c = search needs
-
-held-requires-4 : tie.Need-held-requires-4
-held-requires-4 c κs = search needs
-
 returns : tie.Need-returns
 unfolding cutOf
-returns c = λ i. record { left = c .before .before .before .before .before .before .before .before .before .held .ensures i; right = c .before .before .before .before .before .before .held2 .ensures i; top = c .before .before .before .held3 .ensures i; bottom = c .held4 .ensures i }
+returns c =
+    let third = c .before .before .before in
+    let second = third .before .before .before in
+    let first = second .before .before .before in
+    λ i. record {
+      left = first .clipped .ensures i;
+      right = second .clipped2 .ensures i;
+      top = third .clipped3 .ensures i;
+      bottom = c .clipped4 .ensures i;
+    }
 
 pub cut-by-spec : {M : Type 1} → statement M
 cut-by-spec =
     tie.close
     (tie.spec
-    add-held
-    held-requires
-    add-held-2
-    add-held-3
-    held-requires-2
-    add-held-4
-    held-requires-3
-    add-held-5
-    add-held-6
-    held-requires-4
+    (λ c. search needs)
+    (λ c κs. search needs)
+    (λ c. search needs)
+    (λ c. search needs)
+    (λ c κs. search needs)
+    (λ c. search needs)
+    (λ c κs. search needs)
+    (λ c. search needs)
+    (λ c. search needs)
+    (λ c κs. search needs)
     returns)

@@ -1,17 +1,10 @@
+-- Both arms are the definition's: the word shifted where the cell is set, and 0 where it is not.
+-- The shift is within the word, since the column is one of a row word.
 use mathlib.Core.Path.{sym, _∙_}
-use Rattle.reach.specs.Words.{movedOf}
+use Rattle.reach.specs.Steps.Words.{movedOf}
 use borrow.Author.Needs.{needs}
 use Rattle.reach.proofs.moved.Statement.{statement}
 use Rattle.reach.proofs.moved.Tie as tie
-
-cell-requires : tie.Need-cell-requires
-cell-requires c κs = search needs
-
-cast-result : tie.Need-cast-result
-cast-result c = search needs
-
-shl-result : tie.Need-shl-result
-shl-result c = search needs
 
 returns : tie.Need-returns
 unfolding movedOf
@@ -22,4 +15,5 @@ unfolding movedOf
 returns-2 c = simp (sym (c .before .cell .ensures) ∙ c .if1 .left)
 
 pub moved-spec : {M : Type 1} → statement M
-moved-spec = tie.close (tie.spec cell-requires cast-result shl-result returns returns-2)
+moved-spec =
+    tie.close (tie.spec (λ c κs. search needs) (λ c. search needs) (λ c. search needs) returns returns-2)

@@ -1,58 +1,84 @@
-use lib.Seq.{length-take-le}
-use Rattle.reach.proofs.Loops.{Rest, rest-start, rest-more, rest-all, rest-small, narrow-here}
+-- Invariant: from the words and the origins so far, the links from link i on lead to the whole board.
+-- What falls: the links that are left. Origins of small links sum to little, so that no sum wraps.
+use Prim.Native.Nat.{_+_, _-_, _≤_}
 use native.Mathlib.Omega.{arith}
+use lib.ListN.{length, getD, take}
+use lib.Seq.{length-take-le}
 use borrow.Author.Needs.{needs}
-use lib.ListN.{take}
-use Prim.Native.Nat.{_≤_, _-_}
+use Rattle.reach.specs.Steps.Links.{noLink}
+use Rattle.reach.specs.Steps.Boards.{Small}
+use Rattle.reach.proofs.Loops.{Rest, rest-start, rest-more, rest-all, rest-small, narrow-here}
 use Rattle.reach.proofs.reach.Statement.{statement}
 use Rattle.reach.proofs.reach.Tie as tie
 
 abbrev Inv-loop : tie.InvT-loop
-Inv-loop k m links words₀ column₀ row₀ i₀ words column row i = (i ≤ k) × Rest m (take k links) words column row i
+Inv-loop k m links words₀ column₀ row₀ i₀ words column row i =
+    (i ≤ k) × Rest m (take k links) words column row i
 
 abbrev μ-loop : tie.MeasureT-loop
 μ-loop k m links words₀ column₀ row₀ i₀ words column row i = k - i
 
-start-requires : tie.Need-start-requires Inv-loop μ-loop
-start-requires c κs = search needs
+abbrev Inside : Type 0
+Inside = tie.In-loop Inv-loop μ-loop
 
-loop-holds : tie.Need-loop-holds Inv-loop μ-loop
-loop-holds c = (search needs, rest-start _ _ _ (c .start .ensures))
+abbrev entry : Inside → tie.Start Inv-loop μ-loop
+entry c = c .before .before .before
 
-mul-e : tie.Need-mul-e Inv-loop μ-loop
-mul-e c = search needs
+few : (c : Inside) → entry c .args .k ≤ length (entry c .args .t1)
+few c = let n = entry c .good .0 .1 .0 .1 in omega (arith, entry c .pre .0 .few)
 
-array-copy-out-e : tie.Need-array-copy-out-e Inv-loop μ-loop
-array-copy-out-e c = search needs
+-- the origins so far, with that of link i
+little : (c : Inside) → let l = c .before .loop in
+    let o = getD (entry c .args .t1) (l .i) noLink .outline .origin in
+    Small (record { column = l .column + o .ping .0; row = l .row + o .bin .0 })
+little c =
+    let s = entry c in
+    let l = c .before .loop in
+    rest-small (s .args .t1) (s .args .k) (l .i) (few c)
+    (c .loop-test .taken) (s .args .m) (l .words) (l .words)
+    (l .column) (l .row) (l .inv .1) (s .pre .0 .small) (s .pre .0 .few)
+
+abbrev link-known : tie.After-struct-known Inv-loop μ-loop → Inside
+link-known c = c .before .before .before .before .before .before
 
 cast-column : tie.Need-cast-column Inv-loop μ-loop
-cast-column c = let s = c .before .before .before .before .before .before .before .before in let l = c .before .before .before .before .before .before .loop in let n = s .good .0 .1 .0 .1 in let t = c .before .before .before .before .before .loop-test .taken in let z = rest-small (s .args .t1) (s .args .k) (l .i) (omega arith) t (s .args .m) (l .words) (l .words) (l .column) (l .row) (l .inv .1) (s .pre .0 .small) (s .pre .0 .few) in omega arith
+cast-column c = let z = little (link-known c) in omega arith
 
 add-column : tie.Need-add-column Inv-loop μ-loop
-add-column c = let s = c .before .before .before .before .before .before .before .before in let l = c .before .before .before .before .before .before .loop in let n = s .good .0 .1 .0 .1 in let t = c .before .before .before .before .before .loop-test .taken in let z = rest-small (s .args .t1) (s .args .k) (l .i) (omega arith) t (s .args .m) (l .words) (l .words) (l .column) (l .row) (l .inv .1) (s .pre .0 .small) (s .pre .0 .few) in omega arith
+add-column c = let z = little (link-known c) in omega arith
 
 cast-row : tie.Need-cast-row Inv-loop μ-loop
-cast-row c = let s = c .before .before .before .before .before .before .before .before .before in let l = c .before .before .before .before .before .before .before .loop in let n = s .good .0 .1 .0 .1 in let t = c .before .before .before .before .before .before .loop-test .taken in let z = rest-small (s .args .t1) (s .args .k) (l .i) (omega arith) t (s .args .m) (l .words) (l .words) (l .column) (l .row) (l .inv .1) (s .pre .0 .small) (s .pre .0 .few) in omega arith
+cast-row c = let z = little (link-known (c .before)) in omega arith
 
 add-row : tie.Need-add-row Inv-loop μ-loop
-add-row c = let s = c .before .before .before .before .before .before .before .before .before in let l = c .before .before .before .before .before .before .before .loop in let n = s .good .0 .1 .0 .1 in let t = c .before .before .before .before .before .before .loop-test .taken in let z = rest-small (s .args .t1) (s .args .k) (l .i) (omega arith) t (s .args .m) (l .words) (l .words) (l .column) (l .row) (l .inv .1) (s .pre .0 .small) (s .pre .0 .few) in omega arith
+add-row c = let z = little (link-known (c .before)) in omega arith
 
 onward-requires : tie.Need-onward-requires Inv-loop μ-loop
-onward-requires c κs = let s = c .before .before .before .before .before .before .before .before .before .before in let l = c .before .before .before .before .before .before .before .before .loop in let n = s .good .0 .1 .0 .1 in let t = c .before .before .before .before .before .before .before .loop-test .taken in let z = rest-small (s .args .t1) (s .args .k) (l .i) (omega arith) t (s .args .m) (l .words) (l .words) (l .column) (l .row) (l .inv .1) (s .pre .0 .small) (s .pre .0 .few) in (narrow-here (s .args .t1) (s .args .k) (l .i) (omega arith) t (s .pre .0 .small), (s .pre .1, z))
-
-add-i : tie.Need-add-i Inv-loop μ-loop
-add-i c = search needs
-
-loop-less : tie.Need-loop-less Inv-loop μ-loop
-loop-less c = search needs
+onward-requires c κs =
+    let b = link-known (c .before .before) in
+    let s = entry b in (
+      narrow-here (s .args .t1) (s .args .k) (b .before .loop .i)
+          (few b) (b .loop-test .taken) (s .pre .0 .small),
+      (s .pre .1, little b),
+    )
 
 loop-again : tie.Need-loop-again Inv-loop μ-loop
-loop-again c = let s = c .before .before .before .before .before .before .before .before .before .before .before in let l = c .before .before .before .before .before .before .before .before .before .loop in let n = s .good .0 .1 .0 .1 in
-    (search needs, rest-more (s .args .t1) (s .args .k) (l .i) (omega arith) (c .before .before .before .before .before .before .before .before .loop-test .taken) (s .args .m) (l .words) (c .onward .result) (l .column) (l .row) (l .inv .1) (c .onward .ensures))
+loop-again c =
+    let b = link-known (c .before .before .before) in
+    let s = entry b in
+    let l = b .before .loop in (
+      search needs,
+      rest-more (s .args .t1) (s .args .k) (l .i) (few b) (b .loop-test .taken) (s .args .m) (l .words)
+          (c .onward .result) (l .column) (l .row) (l .inv .1) (c .onward .ensures),
+    )
 
 returns : tie.Need-returns Inv-loop μ-loop
-returns c = let s = c .before .before .before in let l = c .before .loop in let n = s .good .0 .1 .0 .1 in
-    rest-all (s .args .m) (take (s .args .k) (s .args .t1)) (l .words) (l .column) (l .row) (l .i) (l .inv .1) (omega (arith, length-take-le (s .args .k) (s .args .t1) (omega arith)))
+returns c =
+    let s = c .before .before .before in
+    let l = c .before .loop in
+    let n = s .good .0 .1 .0 .1 in
+    rest-all (s .args .m) (take (s .args .k) (s .args .t1)) (l .words) (l .column) (l .row) (l .i) (l .inv .1)
+    (omega (arith, length-take-le (s .args .k) (s .args .t1) (omega arith)))
 
 pub reach-spec : {M : Type 1} → statement M
 reach-spec =
@@ -60,16 +86,16 @@ reach-spec =
     (tie.spec
     Inv-loop
     μ-loop
-    start-requires
-    loop-holds
-    mul-e
-    array-copy-out-e
+    (λ c κs. search needs)
+    (λ c. (search needs, rest-start _ _ _ (c .start .ensures)))
+    (λ c. search needs)
+    (λ c. search needs)
     cast-column
     add-column
     cast-row
     add-row
     onward-requires
-    add-i
-    loop-less
+    (λ c. search needs)
+    (λ c. search needs)
     loop-again
     returns)

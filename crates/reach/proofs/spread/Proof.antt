@@ -1,5 +1,7 @@
+-- Invariant: a is what the first c columns add.
+-- What falls: the columns that are left.
 use Rattle.reach.proofs.Loops.{spread-none, spread-more, spread-all}
-use Rattle.reach.specs.Words.{spreadOf}
+use Rattle.reach.specs.Steps.Words.{spreadOf}
 use native.Mathlib.Omega.{arith}
 use borrow.Author.Needs.{needs}
 use mathlib.Core.Path.{_≡_}
@@ -16,18 +18,6 @@ abbrev μ-loop : tie.MeasureT-loop
 loop-holds : tie.Need-loop-holds Inv-loop μ-loop
 loop-holds c = (search needs, spread-none _ _ _)
 
-cast-t9 : tie.Need-cast-t9 Inv-loop μ-loop
-cast-t9 c = search needs
-
-moved-requires : tie.Need-moved-requires Inv-loop μ-loop
-moved-requires c κs = search needs
-
-add-c : tie.Need-add-c Inv-loop μ-loop
-add-c c = search needs
-
-loop-less : tie.Need-loop-less Inv-loop μ-loop
-loop-less c = search needs
-
 loop-again : tie.Need-loop-again Inv-loop μ-loop
 loop-again c = (search needs, spread-more _ _ _ _ _ _ (c .before .before .loop .inv .1) (c .moved .ensures))
 
@@ -37,4 +27,5 @@ returns c = spread-all _ _ _ (c .before .loop .c) _ _ (c .before .loop .inv .1) 
 pub spread-spec : {M : Type 1} → statement M
 spread-spec =
     tie.close
-    (tie.spec Inv-loop μ-loop loop-holds cast-t9 moved-requires add-c loop-less loop-again returns)
+    (tie.spec Inv-loop μ-loop loop-holds (λ c. search needs) (λ c κs. search needs)
+    (λ c. search needs) (λ c. search needs) loop-again returns)

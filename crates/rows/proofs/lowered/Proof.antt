@@ -1,21 +1,11 @@
+-- By cases of the sign and of the bound: each is a line of arithmetic against the definition.
+-- As `raised`, with the two signs exchanged.
 use Rattle.morphology.specs.Weighted.{lower}
 use borrow.Author.Tests.{lt-ltb, le-ltb}
 use native.Mathlib.Omega.{arith}
 use borrow.Author.Needs.{needs}
 use Rattle.rows.proofs.lowered.Statement.{statement}
 use Rattle.rows.proofs.lowered.Tie as tie
-
-sub-up : tie.Need-sub-up
-sub-up c = search needs
-
-add-up : tie.Need-add-up
-add-up c = search needs
-
-sub-if3 : tie.Need-sub-if3
-sub-if3 c = search needs
-
-add-result : tie.Need-add-result
-add-result c = search needs
 
 returns : tie.Need-returns
 unfolding lower
@@ -35,4 +25,5 @@ returns-4 c = rw (le-ltb _ _ (c .before .if1 .left)) (omega arith)
 
 pub lowered-spec : {M : Type 1} → statement M
 lowered-spec =
-    tie.close (tie.spec sub-up add-up sub-if3 add-result returns returns-2 returns-3 returns-4)
+    tie.close (tie.spec (λ c. search needs) (λ c. search needs)
+    (λ c. search needs) (λ c. search needs) returns returns-2 returns-3 returns-4)

@@ -1,74 +1,79 @@
-use Rattle.text.proofs.Heads.{head-long}
-use Rattle.text.proofs.Items.{put-then}
-use Rattle.text.specs.Text.{decimal, headLine}
-use mathlib.Core.List.{[], _∷_, _++_}
+-- Four pieces, one after another: the width, the height and the kind with their labels, the line feed.
+-- There is room for the whole line, and so for each piece where its turn comes.
+use Rattle.text.proofs.Texts.{head-is}
+use Rattle.text.specs.Text.{headLine}
+use Rattle.digits.specs.Decimal.{decimal}
+use Rattle.digits.proofs.Pieces.{Left, none-put, piece-put, piece-fits, all-put}
+use mathlib.Core.List.{List, [], _∷_, _++_}
+use mathlib.Core.Path.{_∙_}
+use Prim.Native.Nat.{ℕ}
+use native.Mathlib.Nat.{zero-add}
 use native.Mathlib.Omega.{arith}
 use borrow.Author.Needs.{needs}
 use Rattle.text.proofs.put_head.Statement.{statement}
 use Rattle.text.proofs.put_head.Tie as tie
 
-slice-aggregate-put-bytes : tie.Need-slice-aggregate-put-bytes
-slice-aggregate-put-bytes c = search needs
+-- what is left of the line, with the place and the buffer
+abbrev LeftOf : tie.Start → List (List ℕ) → ℕ → List ℕ → Type 0
+LeftOf c = Left 0 (c .args .t .now) (headLine (c .args .w) (c .args .h) (c .args .kind))
 
-put-bytes-requires : tie.Need-put-bytes-requires
-put-bytes-requires c κs = let a = c .before .before .before .args in omega (arith, c .before .before .before .pre, head-long (a .w) (a .h) (a .kind))
+abbrev entry : tie.After-put-labelled → tie.Start
+entry c = c .before .before .before .before
 
-put-decimal-requires : tie.Need-put-decimal-requires
-put-decimal-requires c κs = let a = c .before .before .before .before .before .before .before .args in omega (arith, c .before .before .before .before .before .before .before .pre, head-long (a .w) (a .h) (a .kind), c .before .before .before .put-bytes .ensures .0, c .before .before .before .put-bytes .kept .0)
+abbrev feed : List (List ℕ)
+feed = (10 ∷ []) ∷ []
 
-slice-aggregate-put-bytes-2 : tie.Need-slice-aggregate-put-bytes-2
-slice-aggregate-put-bytes-2 c = search needs
+abbrev kind-on : ℕ → List (List ℕ)
+kind-on kind = ((32 ∷ 107 ∷ 105 ∷ 110 ∷ 100 ∷ 32 ∷ []) ++ decimal kind) ∷ feed
 
-put-bytes-requires-2 : tie.Need-put-bytes-requires-2
-put-bytes-requires-2 c κs = let a = c .before .before .before .before .before .before .before .before .before .before .before .before .args in omega (arith, c .before .before .before .before .before .before .before .before .before .before .before .before .pre, head-long (a .w) (a .h) (a .kind), c .before .before .before .before .before .before .before .before .put-bytes .ensures .0, c .before .before .before .before .before .before .before .before .put-bytes .kept .0, c .before .before .before .before .put-decimal .ensures .0, c .before .before .before .before .put-decimal .kept .0)
+abbrev bins-on : ℕ → ℕ → List (List ℕ)
+bins-on h kind = ((120 ∷ []) ++ decimal h) ∷ kind-on kind
 
-put-decimal-requires-2 : tie.Need-put-decimal-requires-2
-put-decimal-requires-2 c κs = let a = c .before .before .before .before .before .before .before .before .before .before .before .before .before .before .before .before .args in omega (arith, c .before .before .before .before .before .before .before .before .before .before .before .before .before .before .before .before .pre, head-long (a .w) (a .h) (a .kind), c .before .before .before .before .before .before .before .before .before .before .before .before .put-bytes .ensures .0, c .before .before .before .before .before .before .before .before .before .before .before .before .put-bytes .kept .0, c .before .before .before .before .before .before .before .before .put-decimal .ensures .0, c .before .before .before .before .before .before .before .before .put-decimal .kept .0, c .before .before .before .put-bytes2 .ensures .0, c .before .before .before .put-bytes2 .kept .0)
+all-left : (c : tie.Start) → let a = c .args in
+    LeftOf c (((69 ∷ 67 ∷ 72 ∷ 32 ∷ []) ++ decimal (a .w)) ∷ bins-on (a .h) (a .kind)) 0 (a .t .now)
+all-left c = none-put (omega (arith, c .pre)) (head-is _ _ _)
 
-slice-aggregate-put-bytes-3 : tie.Need-slice-aggregate-put-bytes-3
-slice-aggregate-put-bytes-3 c = search needs
+bins-left : (c : tie.After-put-labelled) → let s = entry c in
+    LeftOf s (bins-on (s .args .h) (s .args .kind)) (c .put-labelled .result) (c .put-labelled .last .0)
+bins-left c = piece-put (all-left (entry c)) (c .put-labelled .ensures)
 
-put-bytes-requires-3 : tie.Need-put-bytes-requires-3
-put-bytes-requires-3 c κs = let a = c .before .before .before .before .before .before .before .before .before .before .before .before .before .before .before .before .before .before .before .before .before .args in omega (arith, c .before .before .before .before .before .before .before .before .before .before .before .before .before .before .before .before .before .before .before .before .before .pre, head-long (a .w) (a .h) (a .kind), c .before .before .before .before .before .before .before .before .before .before .before .before .before .before .before .before .before .put-bytes .ensures .0, c .before .before .before .before .before .before .before .before .before .before .before .before .before .before .before .before .before .put-bytes .kept .0, c .before .before .before .before .before .before .before .before .before .before .before .before .before .put-decimal .ensures .0, c .before .before .before .before .before .before .before .before .before .before .before .before .before .put-decimal .kept .0, c .before .before .before .before .before .before .before .before .put-bytes2 .ensures .0, c .before .before .before .before .before .before .before .before .put-bytes2 .kept .0, c .before .before .before .before .put-decimal2 .ensures .0, c .before .before .before .before .put-decimal2 .kept .0)
+kind-left : (c : tie.After-put-labelled2) → let s = entry (c .before .before .before .before .before) in
+    LeftOf s (kind-on (s .args .kind)) (c .put-labelled2 .result) (c .put-labelled2 .last .0)
+kind-left c = piece-put (bins-left (c .before .before .before .before .before)) (c .put-labelled2 .ensures)
 
-put-decimal-requires-3 : tie.Need-put-decimal-requires-3
-put-decimal-requires-3 c κs = let a = c .before .before .before .before .before .before .before .before .before .before .before .before .before .before .before .before .before .before .before .before .before .before .before .before .before .args in omega (arith, c .before .before .before .before .before .before .before .before .before .before .before .before .before .before .before .before .before .before .before .before .before .before .before .before .before .pre, head-long (a .w) (a .h) (a .kind), c .before .before .before .before .before .before .before .before .before .before .before .before .before .before .before .before .before .before .before .before .before .put-bytes .ensures .0, c .before .before .before .before .before .before .before .before .before .before .before .before .before .before .before .before .before .before .before .before .before .put-bytes .kept .0, c .before .before .before .before .before .before .before .before .before .before .before .before .before .before .before .before .before .put-decimal .ensures .0, c .before .before .before .before .before .before .before .before .before .before .before .before .before .before .before .before .before .put-decimal .kept .0, c .before .before .before .before .before .before .before .before .before .before .before .before .put-bytes2 .ensures .0, c .before .before .before .before .before .before .before .before .before .before .before .before .put-bytes2 .kept .0, c .before .before .before .before .before .before .before .before .put-decimal2 .ensures .0, c .before .before .before .before .before .before .before .before .put-decimal2 .kept .0, c .before .before .before .put-bytes3 .ensures .0, c .before .before .before .put-bytes3 .kept .0)
+feed-left : (c : tie.After-put-labelled3) →
+    LeftOf (entry (c .before .before .before .before .before .before .before .before .before .before))
+    feed (c .put-labelled3 .result) (c .put-labelled3 .last .0)
+feed-left c = piece-put (kind-left (c .before .before .before .before .before)) (c .put-labelled3 .ensures)
 
-slice-aggregate-put-bytes-4 : tie.Need-slice-aggregate-put-bytes-4
-slice-aggregate-put-bytes-4 c = search needs
+put-labelled-requires : tie.Need-put-labelled-requires
+put-labelled-requires c κs = piece-fits (all-left (c .before .before .before))
 
-put-bytes-requires-4 : tie.Need-put-bytes-requires-4
-put-bytes-requires-4 c κs = let a = c .before .before .before .before .before .before .before .before .before .before .before .before .before .before .before .before .before .before .before .before .before .before .before .before .before .before .before .before .before .before .args in omega (arith, c .before .before .before .before .before .before .before .before .before .before .before .before .before .before .before .before .before .before .before .before .before .before .before .before .before .before .before .before .before .before .pre, head-long (a .w) (a .h) (a .kind), c .before .before .before .before .before .before .before .before .before .before .before .before .before .before .before .before .before .before .before .before .before .before .before .before .before .before .put-bytes .ensures .0, c .before .before .before .before .before .before .before .before .before .before .before .before .before .before .before .before .before .before .before .before .before .before .before .before .before .before .put-bytes .kept .0, c .before .before .before .before .before .before .before .before .before .before .before .before .before .before .before .before .before .before .before .before .before .before .put-decimal .ensures .0, c .before .before .before .before .before .before .before .before .before .before .before .before .before .before .before .before .before .before .before .before .before .before .put-decimal .kept .0, c .before .before .before .before .before .before .before .before .before .before .before .before .before .before .before .before .before .put-bytes2 .ensures .0, c .before .before .before .before .before .before .before .before .before .before .before .before .before .before .before .before .before .put-bytes2 .kept .0, c .before .before .before .before .before .before .before .before .before .before .before .before .before .put-decimal2 .ensures .0, c .before .before .before .before .before .before .before .before .before .before .before .before .before .put-decimal2 .kept .0, c .before .before .before .before .before .before .before .before .put-bytes3 .ensures .0, c .before .before .before .before .before .before .before .before .put-bytes3 .kept .0, c .before .before .before .before .put-decimal3 .ensures .0, c .before .before .before .before .put-decimal3 .kept .0)
+put-labelled-requires-2 : tie.Need-put-labelled-requires-2
+put-labelled-requires-2 c κs = piece-fits (bins-left (c .before .before .before .before))
 
-same-length : tie.Need-same-length
-same-length c = search needs
+put-labelled-requires-3 : tie.Need-put-labelled-requires-3
+put-labelled-requires-3 c κs = piece-fits (kind-left (c .before .before .before .before))
+
+put-byte-requires : tie.Need-put-byte-requires
+put-byte-requires c κs = omega (arith, piece-fits (feed-left (c .before .before .before)))
 
 returns : tie.Need-returns
-unfolding headLine
-returns c = let a = c .before .before .before .before .before .before .before .before .before .before .before .before .before .before .before .before .before .before .before .before .before .before .before .before .before .before .before .before .before .before .before .before .before .args in
-    let room = head-long (a .w) (a .h) (a .kind) in
-    let f5 = put-then (c .before .before .before .before .before .before .before .before .before .before .before .put-bytes3 .result) (decimal (a .kind)) ((10 ∷ [])) (c .before .before .before .before .before .before .before .before .before .before .before .put-bytes3 .last .0) _ _ _ _ (omega (arith, c .before .before .before .before .before .before .before .before .before .before .before .before .before .before .before .before .before .before .before .before .before .before .before .before .before .before .before .before .before .before .before .before .before .pre, room, c .before .before .before .before .before .before .before .before .before .before .before .before .before .before .before .before .before .before .before .before .before .before .before .before .before .before .before .before .before .put-bytes .ensures .0, c .before .before .before .before .before .before .before .before .before .before .before .before .before .before .before .before .before .before .before .before .before .before .before .before .before .before .before .before .before .put-bytes .kept .0, c .before .before .before .before .before .before .before .before .before .before .before .before .before .before .before .before .before .before .before .before .before .before .before .before .before .put-decimal .ensures .0, c .before .before .before .before .before .before .before .before .before .before .before .before .before .before .before .before .before .before .before .before .before .before .before .before .before .put-decimal .kept .0, c .before .before .before .before .before .before .before .before .before .before .before .before .before .before .before .before .before .before .before .before .put-bytes2 .ensures .0, c .before .before .before .before .before .before .before .before .before .before .before .before .before .before .before .before .before .before .before .before .put-bytes2 .kept .0, c .before .before .before .before .before .before .before .before .before .before .before .before .before .before .before .before .put-decimal2 .ensures .0, c .before .before .before .before .before .before .before .before .before .before .before .before .before .before .before .before .put-decimal2 .kept .0, c .before .before .before .before .before .before .before .before .before .before .before .put-bytes3 .ensures .0, c .before .before .before .before .before .before .before .before .before .before .before .put-bytes3 .kept .0, c .before .before .before .before .before .before .before .put-decimal3 .ensures .0, c .before .before .before .before .before .before .before .put-decimal3 .kept .0)) (c .before .before .before .before .before .before .before .put-decimal3 .ensures .0) (c .before .before .before .before .before .before .before .put-decimal3 .ensures .1) (c .before .before .put-bytes4 .ensures .0) (c .before .before .put-bytes4 .ensures .1) in
-    let f4 = put-then (c .before .before .before .before .before .before .before .before .before .before .before .before .before .before .before .before .put-decimal2 .result) (32 ∷ 107 ∷ 105 ∷ 110 ∷ 100 ∷ 32 ∷ []) ((decimal (a .kind)) ++ ((10 ∷ []))) (c .before .before .before .before .before .before .before .before .before .before .before .before .before .before .before .before .put-decimal2 .last .0) _ _ _ _ (omega (arith, c .before .before .before .before .before .before .before .before .before .before .before .before .before .before .before .before .before .before .before .before .before .before .before .before .before .before .before .before .before .before .before .before .before .pre, room, c .before .before .before .before .before .before .before .before .before .before .before .before .before .before .before .before .before .before .before .before .before .before .before .before .before .before .before .before .before .put-bytes .ensures .0, c .before .before .before .before .before .before .before .before .before .before .before .before .before .before .before .before .before .before .before .before .before .before .before .before .before .before .before .before .before .put-bytes .kept .0, c .before .before .before .before .before .before .before .before .before .before .before .before .before .before .before .before .before .before .before .before .before .before .before .before .before .put-decimal .ensures .0, c .before .before .before .before .before .before .before .before .before .before .before .before .before .before .before .before .before .before .before .before .before .before .before .before .before .put-decimal .kept .0, c .before .before .before .before .before .before .before .before .before .before .before .before .before .before .before .before .before .before .before .before .put-bytes2 .ensures .0, c .before .before .before .before .before .before .before .before .before .before .before .before .before .before .before .before .before .before .before .before .put-bytes2 .kept .0, c .before .before .before .before .before .before .before .before .before .before .before .before .before .before .before .before .put-decimal2 .ensures .0, c .before .before .before .before .before .before .before .before .before .before .before .before .before .before .before .before .put-decimal2 .kept .0, c .before .before .before .before .before .before .before .before .before .before .before .put-bytes3 .ensures .0, c .before .before .before .before .before .before .before .before .before .before .before .put-bytes3 .kept .0)) (c .before .before .before .before .before .before .before .before .before .before .before .put-bytes3 .ensures .0) (c .before .before .before .before .before .before .before .before .before .before .before .put-bytes3 .ensures .1) (f5 .0) (f5 .1) in
-    let f3 = put-then (c .before .before .before .before .before .before .before .before .before .before .before .before .before .before .before .before .before .before .before .before .put-bytes2 .result) (decimal (a .h)) ((32 ∷ 107 ∷ 105 ∷ 110 ∷ 100 ∷ 32 ∷ []) ++ ((decimal (a .kind)) ++ ((10 ∷ [])))) (c .before .before .before .before .before .before .before .before .before .before .before .before .before .before .before .before .before .before .before .before .put-bytes2 .last .0) _ _ _ _ (omega (arith, c .before .before .before .before .before .before .before .before .before .before .before .before .before .before .before .before .before .before .before .before .before .before .before .before .before .before .before .before .before .before .before .before .before .pre, room, c .before .before .before .before .before .before .before .before .before .before .before .before .before .before .before .before .before .before .before .before .before .before .before .before .before .before .before .before .before .put-bytes .ensures .0, c .before .before .before .before .before .before .before .before .before .before .before .before .before .before .before .before .before .before .before .before .before .before .before .before .before .before .before .before .before .put-bytes .kept .0, c .before .before .before .before .before .before .before .before .before .before .before .before .before .before .before .before .before .before .before .before .before .before .before .before .before .put-decimal .ensures .0, c .before .before .before .before .before .before .before .before .before .before .before .before .before .before .before .before .before .before .before .before .before .before .before .before .before .put-decimal .kept .0, c .before .before .before .before .before .before .before .before .before .before .before .before .before .before .before .before .before .before .before .before .put-bytes2 .ensures .0, c .before .before .before .before .before .before .before .before .before .before .before .before .before .before .before .before .before .before .before .before .put-bytes2 .kept .0, c .before .before .before .before .before .before .before .before .before .before .before .before .before .before .before .before .put-decimal2 .ensures .0, c .before .before .before .before .before .before .before .before .before .before .before .before .before .before .before .before .put-decimal2 .kept .0)) (c .before .before .before .before .before .before .before .before .before .before .before .before .before .before .before .before .put-decimal2 .ensures .0) (c .before .before .before .before .before .before .before .before .before .before .before .before .before .before .before .before .put-decimal2 .ensures .1) (f4 .0) (f4 .1) in
-    let f2 = put-then (c .before .before .before .before .before .before .before .before .before .before .before .before .before .before .before .before .before .before .before .before .before .before .before .before .before .put-decimal .result) (120 ∷ []) ((decimal (a .h)) ++ ((32 ∷ 107 ∷ 105 ∷ 110 ∷ 100 ∷ 32 ∷ []) ++ ((decimal (a .kind)) ++ ((10 ∷ []))))) (c .before .before .before .before .before .before .before .before .before .before .before .before .before .before .before .before .before .before .before .before .before .before .before .before .before .put-decimal .last .0) _ _ _ _ (omega (arith, c .before .before .before .before .before .before .before .before .before .before .before .before .before .before .before .before .before .before .before .before .before .before .before .before .before .before .before .before .before .before .before .before .before .pre, room, c .before .before .before .before .before .before .before .before .before .before .before .before .before .before .before .before .before .before .before .before .before .before .before .before .before .before .before .before .before .put-bytes .ensures .0, c .before .before .before .before .before .before .before .before .before .before .before .before .before .before .before .before .before .before .before .before .before .before .before .before .before .before .before .before .before .put-bytes .kept .0, c .before .before .before .before .before .before .before .before .before .before .before .before .before .before .before .before .before .before .before .before .before .before .before .before .before .put-decimal .ensures .0, c .before .before .before .before .before .before .before .before .before .before .before .before .before .before .before .before .before .before .before .before .before .before .before .before .before .put-decimal .kept .0, c .before .before .before .before .before .before .before .before .before .before .before .before .before .before .before .before .before .before .before .before .put-bytes2 .ensures .0, c .before .before .before .before .before .before .before .before .before .before .before .before .before .before .before .before .before .before .before .before .put-bytes2 .kept .0)) (c .before .before .before .before .before .before .before .before .before .before .before .before .before .before .before .before .before .before .before .before .put-bytes2 .ensures .0) (c .before .before .before .before .before .before .before .before .before .before .before .before .before .before .before .before .before .before .before .before .put-bytes2 .ensures .1) (f3 .0) (f3 .1) in
-    let f1 = put-then (c .before .before .before .before .before .before .before .before .before .before .before .before .before .before .before .before .before .before .before .before .before .before .before .before .before .before .before .before .before .put-bytes .result) (decimal (a .w)) ((120 ∷ []) ++ ((decimal (a .h)) ++ ((32 ∷ 107 ∷ 105 ∷ 110 ∷ 100 ∷ 32 ∷ []) ++ ((decimal (a .kind)) ++ ((10 ∷ [])))))) (c .before .before .before .before .before .before .before .before .before .before .before .before .before .before .before .before .before .before .before .before .before .before .before .before .before .before .before .before .before .put-bytes .last .0) _ _ _ _ (omega (arith, c .before .before .before .before .before .before .before .before .before .before .before .before .before .before .before .before .before .before .before .before .before .before .before .before .before .before .before .before .before .before .before .before .before .pre, room, c .before .before .before .before .before .before .before .before .before .before .before .before .before .before .before .before .before .before .before .before .before .before .before .before .before .before .before .before .before .put-bytes .ensures .0, c .before .before .before .before .before .before .before .before .before .before .before .before .before .before .before .before .before .before .before .before .before .before .before .before .before .before .before .before .before .put-bytes .kept .0, c .before .before .before .before .before .before .before .before .before .before .before .before .before .before .before .before .before .before .before .before .before .before .before .before .before .put-decimal .ensures .0, c .before .before .before .before .before .before .before .before .before .before .before .before .before .before .before .before .before .before .before .before .before .before .before .before .before .put-decimal .kept .0)) (c .before .before .before .before .before .before .before .before .before .before .before .before .before .before .before .before .before .before .before .before .before .before .before .before .before .put-decimal .ensures .0) (c .before .before .before .before .before .before .before .before .before .before .before .before .before .before .before .before .before .before .before .before .before .before .before .before .before .put-decimal .ensures .1) (f2 .0) (f2 .1) in
-    let f0 = put-then 0 (69 ∷ 67 ∷ 72 ∷ 32 ∷ []) ((decimal (a .w)) ++ ((120 ∷ []) ++ ((decimal (a .h)) ++ ((32 ∷ 107 ∷ 105 ∷ 110 ∷ 100 ∷ 32 ∷ []) ++ ((decimal (a .kind)) ++ ((10 ∷ []))))))) (a .t .now) _ _ _ _ (omega (arith, c .before .before .before .before .before .before .before .before .before .before .before .before .before .before .before .before .before .before .before .before .before .before .before .before .before .before .before .before .before .before .before .before .before .pre, room, c .before .before .before .before .before .before .before .before .before .before .before .before .before .before .before .before .before .before .before .before .before .before .before .before .before .before .before .before .before .put-bytes .ensures .0, c .before .before .before .before .before .before .before .before .before .before .before .before .before .before .before .before .before .before .before .before .before .before .before .before .before .before .before .before .before .put-bytes .kept .0)) (c .before .before .before .before .before .before .before .before .before .before .before .before .before .before .before .before .before .before .before .before .before .before .before .before .before .before .before .before .before .put-bytes .ensures .0) (c .before .before .before .before .before .before .before .before .before .before .before .before .before .before .before .before .before .before .before .before .before .before .before .before .before .before .before .before .before .put-bytes .ensures .1) (f1 .0) (f1 .1) in
-    (omega (arith, f0 .0), f0 .1)
+returns c = let last = c .before .before in
+    let e =
+    all-put (piece-put (feed-left (last .before .before .before .before)) (last .put-byte .ensures)) in
+    (e .0 ∙ zero-add _, e .1)
 
 pub put-head-spec : {M : Type 1} → statement M
 put-head-spec =
     tie.close
     (tie.spec
-    slice-aggregate-put-bytes
-    put-bytes-requires
-    put-decimal-requires
-    slice-aggregate-put-bytes-2
-    put-bytes-requires-2
-    put-decimal-requires-2
-    slice-aggregate-put-bytes-3
-    put-bytes-requires-3
-    put-decimal-requires-3
-    slice-aggregate-put-bytes-4
-    put-bytes-requires-4
-    same-length
+    (λ c. search needs)
+    put-labelled-requires
+    (λ c. search needs)
+    put-labelled-requires-2
+    (λ c. search needs)
+    put-labelled-requires-3
+    put-byte-requires
+    (λ c. search needs)
     returns)

@@ -1,46 +1,49 @@
-use Rattle.text.proofs.Texts.{first-as, refused-long}
-use Rattle.text.proofs.Items.{put-then}
-use Rattle.text.specs.Text.{decimal, refusedLine}
-use mathlib.Core.List.{[], _∷_, _++_}
-use mathlib.Core.Path.{refl}
+-- Two pieces, one after the other: the number with its label, the line feed.
+-- There is room for the whole line, and so for each piece where its turn comes.
+use Rattle.text.proofs.Texts.{refused-is, at-start}
+use Rattle.text.specs.Text.{refusedLine}
+use Rattle.digits.specs.Decimal.{decimal}
+use Rattle.digits.proofs.Pieces.{Left, none-put, piece-put, piece-fits, all-put}
+use Prim.Native.Nat.{ℕ}
+use mathlib.Core.List.{List, [], _∷_, _++_}
 use native.Mathlib.Omega.{arith}
 use borrow.Author.Needs.{needs}
 use Rattle.text.proofs.put_refused.Statement.{statement}
 use Rattle.text.proofs.put_refused.Tie as tie
 
-slice-aggregate-put-bytes : tie.Need-slice-aggregate-put-bytes
-slice-aggregate-put-bytes c = search needs
+-- what is left of the line, with the place and the buffer
+abbrev LeftOf : tie.Start → List (List ℕ) → ℕ → List ℕ → Type 0
+LeftOf c = Left 0 (c .args .t .now) (refusedLine (c .args .number))
 
-put-bytes-requires : tie.Need-put-bytes-requires
-put-bytes-requires c κs = omega (arith, c .before .before .before .pre, refused-long (c .before .before .before .args .number))
+abbrev label : List ℕ
+label = 114 ∷ 101 ∷ 102 ∷ 117 ∷ 115 ∷ 101 ∷ 100 ∷ 32 ∷ []
 
-put-decimal-requires : tie.Need-put-decimal-requires
-put-decimal-requires c κs = omega (arith, c .before .before .before .before .before .before .before .pre, refused-long (c .before .before .before .before .before .before .before .args .number), c .before .before .before .put-bytes .ensures .0, c .before .before .before .put-bytes .kept .0)
+all-left : (c : tie.Start) →
+    LeftOf c ((label ++ decimal (c .args .number)) ∷ (10 ∷ []) ∷ []) 0 (c .args .t .now)
+all-left c = none-put (omega (arith, c .pre)) (refused-is _)
 
-slice-aggregate-put-bytes-2 : tie.Need-slice-aggregate-put-bytes-2
-slice-aggregate-put-bytes-2 c = search needs
+feed-left : (c : tie.After-put-labelled) →
+    LeftOf (c .before .before .before .before) ((10 ∷ []) ∷ [])
+    (c .put-labelled .result) (c .put-labelled .last .0)
+feed-left c = piece-put (all-left (c .before .before .before .before)) (c .put-labelled .ensures)
 
-put-bytes-requires-2 : tie.Need-put-bytes-requires-2
-put-bytes-requires-2 c κs = omega (arith, c .before .before .before .before .before .before .before .before .before .before .before .before .pre, refused-long (c .before .before .before .before .before .before .before .before .before .before .before .before .args .number), c .before .before .before .before .put-decimal .ensures .0, c .before .before .before .before .put-decimal .kept .0, c .before .before .before .before .before .before .before .before .put-bytes .ensures .0, c .before .before .before .before .before .before .before .before .put-bytes .kept .0)
+put-labelled-requires : tie.Need-put-labelled-requires
+put-labelled-requires c κs = piece-fits (all-left (c .before .before .before))
 
-same-length : tie.Need-same-length
-same-length c = search needs
+put-byte-requires : tie.Need-put-byte-requires
+put-byte-requires c κs = omega (arith, piece-fits (feed-left (c .before .before .before)))
 
 returns : tie.Need-returns
-unfolding refusedLine
-returns c = let a = c .before .before .before .before .before .before .before .before .before .before .before .before .before .before .before .args in
-    let room = refused-long (a .number) in
-    let f1 = put-then (c .before .before .before .before .before .before .before .before .before .before .before .put-bytes .result) (decimal (a .number)) (10 ∷ []) (c .before .before .before .before .before .before .before .before .before .before .before .put-bytes .last .0) _ _ _ _ (omega (arith, c .before .before .before .before .before .before .before .before .before .before .before .before .before .before .before .pre, room, c .before .before .before .before .before .before .before .before .before .before .before .put-bytes .ensures .0, c .before .before .before .before .before .before .before .before .before .before .before .put-bytes .kept .0)) (c .before .before .before .before .before .before .before .put-decimal .ensures .0) (c .before .before .before .before .before .before .before .put-decimal .ensures .1) (c .before .before .put-bytes2 .ensures .0) (c .before .before .put-bytes2 .ensures .1) in
-    first-as _ _ _ _ _ refl (put-then 0 (114 ∷ 101 ∷ 102 ∷ 117 ∷ 115 ∷ 101 ∷ 100 ∷ 32 ∷ []) (decimal (a .number) ++ (10 ∷ [])) (a .t .now) _ _ _ _ (omega (arith, c .before .before .before .before .before .before .before .before .before .before .before .before .before .before .before .pre, room)) (c .before .before .before .before .before .before .before .before .before .before .before .put-bytes .ensures .0) (c .before .before .before .before .before .before .before .before .before .before .before .put-bytes .ensures .1) (f1 .0) (f1 .1))
+returns c = let last = c .before .before in
+    at-start _ _ _ _
+    (all-put (piece-put (feed-left (last .before .before .before .before)) (last .put-byte .ensures)))
 
 pub put-refused-spec : {M : Type 1} → statement M
 put-refused-spec =
     tie.close
     (tie.spec
-    slice-aggregate-put-bytes
-    put-bytes-requires
-    put-decimal-requires
-    slice-aggregate-put-bytes-2
-    put-bytes-requires-2
-    same-length
+    (λ c. search needs)
+    put-labelled-requires
+    put-byte-requires
+    (λ c. search needs)
     returns)

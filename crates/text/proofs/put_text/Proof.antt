@@ -1,39 +1,49 @@
-use Rattle.text.proofs.Texts.{text-is, text-long, first-as, eightOf, eight-of}
-use Rattle.text.proofs.Items.{put-then}
-use Rattle.text.specs.Lines.{lineOf}
-use Rattle.text.specs.Text.{headLine}
-use Rattle.picture.specs.Frame.{Holds}
-use Rattle.picture.specs.declared.Depth.{Depth}
-use Rattle.basics.specs.Lists.{joined}
-use lib.ListN.{length}
+-- Two pieces, one after the other: the first line, the lines of the rows.
+-- There is room for the whole text, and so for each piece where its turn comes.
+use Rattle.text.specs.Text.{headLine, rowLines, textOf}
+use Rattle.text.proofs.Texts.{text-is, at-start}
+use Rattle.digits.proofs.Pieces.{Left, none-put, piece-put, piece-fits, all-put}
+use Rattle.picture.specs.Points.{valueAt}
+use Prim.Native.Nat.{ℕ}
+use mathlib.Core.List.{List, [], _∷_}
+use mathlib.Core.Path.{sym, _∙_}
 use native.Mathlib.Nat.{zero-add}
-use mathlib.Core.Path.{sym, _∙_, subst}
 use native.Mathlib.Omega.{arith}
 use borrow.Author.Needs.{needs}
 use Rattle.text.proofs.put_text.Statement.{statement}
 use Rattle.text.proofs.put_text.Tie as tie
 
-put-head-requires : tie.Need-put-head-requires
-put-head-requires c κs = let a = c .before .before .before .args in omega (arith, c .before .before .before .pre .1, text-long (eightOf (a .depth)) (a .depth) (a .s .now) (a .w) (a .h) (a .kind) (eight-of (a .depth)))
+-- what is left of the text, with the place and the buffer
+abbrev LeftOf : tie.Start → List (List ℕ) → ℕ → List ℕ → Type 0
+LeftOf c = let a = c .args in
+    Left 0 (a .t .now) (textOf (a .depth) (valueAt (a .depth) (a .s .now) (a .w)) (a .w) (a .h) (a .kind))
 
-is-eight-requires : tie.Need-is-eight-requires
-is-eight-requires c κs = search needs
+abbrev rows : tie.Start → List ℕ
+rows c = let a = c .args in rowLines (a .depth) (valueAt (a .depth) (a .s .now) (a .w)) (a .w) (a .h)
+
+all-left : (c : tie.Start) → let a = c .args in
+    LeftOf c (headLine (a .w) (a .h) (a .kind) ∷ rows c ∷ []) 0 (a .t .now)
+all-left c = none-put (omega (arith, c .pre .1)) (text-is _ _ _ _ _)
+
+rows-left : (c : tie.After-put-head)
+    → LeftOf (c .before .before .before .before)
+    (rows (c .before .before .before .before) ∷ []) (c .put-head .result) (c .put-head .last .0)
+rows-left c = let e = c .put-head .ensures in
+    piece-put (all-left (c .before .before .before .before)) (e .0 ∙ sym (zero-add _), e .1)
+
+put-head-requires : tie.Need-put-head-requires
+put-head-requires c κs = omega (arith, piece-fits (all-left (c .before .before .before)))
 
 put-lines-requires : tie.Need-put-lines-requires
-put-lines-requires c κs = let a = c .before .before .before .before .before .before .before .before .args in
-    let e = c .before .is-eight .ensures in
-    (subst (λ (d : Depth). Holds d (length (a .s .now)) (a .w) (a .h)) (sym e) (c .before .before .before .before .before .before .before .before .pre .0), omega (arith, c .before .before .before .before .before .before .before .before .pre .1, text-long (c .before .is-eight .result) (a .depth) (a .s .now) (a .w) (a .h) (a .kind) e, c .before .before .before .before .put-head .ensures .0, c .before .before .before .before .put-head .kept .0))
-
-same-length : tie.Need-same-length
-same-length c = search needs
+put-lines-requires c κs = (
+  c .before .before .before .before .before .before .before .pre .0,
+  piece-fits (rows-left (c .before .before .before)),
+)
 
 returns : tie.Need-returns
-returns c = let a = c .before .before .before .before .before .before .before .before .before .before .before .args in
-    let b = c .before .before .before .before .is-eight .result in
-    let e = c .before .before .before .before .is-eight .ensures in
-    first-as _ _ _ _ _ (text-is b (a .depth) (a .s .now) (a .w) (a .h) (a .kind) e)
-    (put-then 0 (headLine (a .w) (a .h) (a .kind)) (joined (lineOf b (a .s .now) (a .w)) (a .h)) (a .t .now) _ _ _ _ (omega (arith, c .before .before .before .before .before .before .before .before .before .before .before .pre .1, text-long b (a .depth) (a .s .now) (a .w) (a .h) (a .kind) e)) (c .before .before .before .before .before .before .before .put-head .ensures .0 ∙ sym (zero-add _)) (c .before .before .before .before .before .before .before .put-head .ensures .1) (c .before .before .put-lines .ensures .0) (c .before .before .put-lines .ensures .1))
+returns c = let last = c .before .before in
+    at-start _ _ _ _
+    (all-put (piece-put (rows-left (last .before .before .before .before)) (last .put-lines .ensures)))
 
 pub put-text-spec : {M : Type 1} → statement M
-put-text-spec =
-    tie.close (tie.spec put-head-requires is-eight-requires put-lines-requires same-length returns)
+put-text-spec = tie.close (tie.spec put-head-requires put-lines-requires (λ c. search needs) returns)

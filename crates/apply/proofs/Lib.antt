@@ -1,0 +1,4 @@
+pub mod Applied
+pub mod Twice
+pub mod Read
+pub mod Settled

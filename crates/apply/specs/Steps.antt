@@ -1,0 +1,2 @@
+-- How the work goes: morphology's operations over the code's own record.
+pub mod Applied

@@ -1,0 +1,4 @@
+pub mod Source
+pub mod Row
+pub mod Packed
+pub mod Settled

@@ -1,0 +1,2 @@
+-- How the work goes: a row of the result.
+pub mod Row

@@ -1,0 +1,3 @@
+pub mod Copies
+pub mod ReadBack
+pub mod Settled

@@ -1,0 +1,9 @@
+-- Any two outcomes that a contract allows of one call are the same: for each public function, of its contract
+-- itself, as the prover reads it.
+use Rattle.basics.proofs.Settled.{SettlesBytes, settled}
+use Rattle.copies.proofs.copy_picture.Kinds as copy-picture-kinds
+use Rattle.copies.proofs.copy_picture.Reads as copy-picture
+
+pub copy-picture-settled :
+    SettlesBytes 2 copy-picture-kinds.ps copy-picture-kinds.r copy-picture.Learnt (λ κs e. e .1 .1 .1 .0 .now)
+copy-picture-settled κs a x y s t p q = settled p q

@@ -1,0 +1,4 @@
+pub mod Puts
+pub mod Pieces
+pub mod Decimals
+pub mod Settled

@@ -1,0 +1,2 @@
+-- How the work goes: by outlines and row words, row after row.
+pub mod Rows

@@ -1,4 +1,0 @@
-pub mod Refused
-pub mod Given
-pub mod Swept
-pub mod Settled

@@ -1,0 +1,36 @@
+-- The links and the offsets that the code holds, as the definitions of chains have them.
+use Prim.Native.Nat.{ℕ, _≤_}
+use mathlib.Core.List.{List, [], map}
+use lib.ListN.{take}
+use Rattle.element.specs.declared.Element.{Element}
+use Rattle.element.specs.Shape.{Shape}
+use Rattle.element.specs.Record.{shapeOf}
+use Rattle.morphology.specs.Step.{Place}
+use Rattle.morphology.specs.Chain.{mostLinkCells, mostLinks, AllFit}
+use Rattle.reach.specs.declared.Offset.{Offset}
+
+-- the links
+abbrev pub shapesOf : List Element → List Shape
+shapesOf es = map shapeOf es
+
+-- what stands for an element where there is none
+abbrev pub noLink : Element
+noLink =
+    record {
+      outline = record { w = 0; h = 0; origin = record { ping = record { 0 = 0 }; bin = record { 0 = 0 } } };
+      rows = [];
+    }
+
+-- the place that stands for an offset
+abbrev pub placeOf : Offset → Place
+placeOf e = record { x = e .x; y = e .y }
+
+-- each coordinate is one byte
+pub record OneByte (e : Offset) : Type 0 where
+  pub x-high : e .x ≤ 255
+  pub y-high : e .y ≤ 255
+
+-- the first k links are few and small
+pub record Linked (links : List Element) (k : ℕ) : Type 0 where
+  pub few : k ≤ mostLinks
+  pub small : AllFit mostLinkCells (shapesOf (take k links))

@@ -1,0 +1,11 @@
+-- It passes on what `run_twice` returns, with erosion first.
+-- That is what is promised here: the operation's definition is that way's.
+use borrow.Author.Needs.{needs}
+use Rattle.weighted.proofs.open.Statement.{statement}
+use Rattle.weighted.proofs.open.Tie as tie
+
+returns : tie.Need-returns
+returns c = c .before .before .before .before .run-twice .ensures
+
+pub open-spec : {M : Type 1} → statement M
+open-spec = tie.close (tie.spec (λ c κs. search needs) (λ c. search needs) (λ c. search needs) returns)
