@@ -119,7 +119,7 @@ uint32_t qik_hit_or_miss(uint64_t w, uint64_t h, const uint8_t *source, size_t s
 uint32_t qik_weighted_erode(uint64_t w, uint64_t h, const uint8_t *source, size_t source_len, const uint8_t *element,
                             size_t element_len, uint8_t *target, size_t target_len);
 
-/* Weighted dilation of an 8-bit picture: the greatest of source at point - offset, and the offset's height, over the offsets that stay in
+/* Weighted dilation of an 8-bit picture: the greatest of source at point - offset, plus the offset's height, over the offsets that stay in
  * the frame, held to 0..255; 0 where there is none. Buffers and answer are those of qik_weighted_erode. */
 uint32_t qik_weighted_dilate(uint64_t w, uint64_t h, const uint8_t *source, size_t source_len, const uint8_t *element,
                              size_t element_len, uint8_t *target, size_t target_len);

@@ -5,3 +5,4 @@ pub mod Order
 pub mod Settled
 pub mod Lent
 pub mod Packed
+pub mod Apart

@@ -2,3 +2,4 @@ pub mod Answer
 pub mod Refuse
 pub mod Lent
 pub mod Packed
+pub mod Apart

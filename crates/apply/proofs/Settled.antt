@@ -1,6 +1,7 @@
 -- Any two outcomes that a contract allows of one call are the same:
 -- for each public function, of its contract itself, as the prover reads it.
-use Rattle.basics.proofs.Settled.{SettlesBytes, settled}
+use Rattle.basics.specs.Settles.{SettlesBytes}
+use Rattle.basics.proofs.Settled.{settled}
 use Rattle.apply.proofs.flat.Kinds as flat-kinds
 use Rattle.apply.proofs.flat.Reads as flat
 use Rattle.apply.proofs.flat_twice.Kinds as flat-twice-kinds

@@ -169,16 +169,8 @@ pub fn weighted(
         w h (now (target .entry)) ⌝ }
 {
     let words = e.rows;
-    sweep_bytes(
-        rows::is_growing(way),
-        source,
-        target,
-        w,
-        h,
-        e.outline,
-        &words,
-        heights,
-    );
+    let grows = rows::is_growing(way);
+    sweep_bytes(grows, source, target, w, h, e.outline, &words, heights);
 }
 
 // The first into the scratch, and the other from there into the target.

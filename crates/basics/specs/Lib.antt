@@ -3,3 +3,4 @@ pub mod Bits
 pub mod Tests
 pub mod Zip
 pub mod Bytes
+pub mod Settles

@@ -6,13 +6,13 @@ ghost use Prim.Native.Nat.{min, max};
 pub fn lesser(a: usize, b: usize) -> usize
     ensures { λ r. ⌜ r ≡ min a b ⌝ }
 {
-    if b < a { b } else { a }
+    if a < b { a } else { b }
 }
 
 pub fn greater(a: usize, b: usize) -> usize
     ensures { λ r. ⌜ r ≡ max a b ⌝ }
 {
-    if a < b { b } else { a }
+    if b < a { a } else { b }
 }
 
 // The same of bytes, as loops over rows want it.

@@ -114,11 +114,12 @@ fn columns(
     }
 }
 
-// The low bit of column x, and 0 past the row's end.
-fn bit_at(row: &[u8], w: usize, x: usize) -> u8
+// The low bit of a column, and 0 past the row's end.
+fn bit_at(row: &[u8], w: usize, column: Ping) -> u8
     requires { ⌜ w ≤ length (now row) ⌝ }
-    ensures { λ r. ⌜ r ≡ cond (ltb x w) (getD (now (row .entry)) x 0 % 2) 0 ⌝ }
+    ensures { λ r. ⌜ r ≡ cond (ltb (column .0) w) (getD (now (row .entry)) (column .0) 0 % 2) 0 ⌝ }
 {
+    let x = column.0 as usize;
     if x < w { row[x] & 1 } else { 0 }
 }
 
@@ -130,7 +131,7 @@ fn byte_of(row: &[u8], w: usize, i: usize) -> u8
     let mut b: u8 = 0;
     let mut k = 0;
     while k < 8 {
-        b = (b << 1) | bit_at(row, w, i * 8 + k);
+        b = (b << 1) | bit_at(row, w, Ping((i * 8 + k) as u16));
         k += 1;
     }
     b

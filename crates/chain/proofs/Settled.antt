@@ -8,7 +8,8 @@ use contract.Lifetimes.{Lfts}
 use lib.ListN.{take}
 use Rattle.answer.specs.Answer.{told, isDone}
 use Rattle.answer.proofs.OneToOne.{same-answer}
-use Rattle.basics.proofs.Settled.{Settles, settled}
+use Rattle.basics.specs.Settles.{Settles}
+use Rattle.basics.proofs.Settled.{settled}
 use Rattle.chain.proofs.is_counted.Kinds as is-counted-kinds
 use Rattle.chain.proofs.is_counted.Reads as is-counted
 use Rattle.chain.proofs.checked_links.Kinds as checked-links-kinds

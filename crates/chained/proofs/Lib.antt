@@ -1,5 +1,4 @@
 pub mod Results
 pub mod Buffers
 pub mod Answers
-pub mod Finding
 pub mod Settled

@@ -1,3 +1,2 @@
 pub mod Run
-pub mod Finder
 pub mod Steps

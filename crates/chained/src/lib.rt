@@ -1,5 +1,5 @@
 // Chained erosion and dilation as a user calls them: each link in order,
-// into one of two work buffers and then the other; and the finder of the last picture.
+// into one of two work buffers and then the other.
 use answer::Answer;
 use element::Element;
 use judge::Padding;
@@ -15,7 +15,6 @@ ghost use Rattle.picture.specs.Frame.{Holds};
 ghost use Rattle.rows.specs.Steps.Ways.{growsOf};
 ghost use Rattle.apply.specs.Steps.Applied.{Fitting};
 ghost use Rattle.chained.specs.Run.{runAnswer, eroded, dilated, firstAfter, secondAfter};
-ghost use Rattle.chained.specs.Finder.{foundAt};
 ghost use Rattle.chained.specs.Steps.Buffers.{resultsBy, madeBy, firstBy, secondBy, Going};
 
 // The link after i others, from what the last of them left into the other buffer;
@@ -128,7 +127,7 @@ fn run(
 
 // Erosion of the w x h picture in the source by each link of a chain in order,
 // refused where the check of the element and the chain refuses it.
-// Results 1, 3 and 5 go to the first buffer, 2 and 4 to the second; `last_picture` finds the last.
+// Results 1, 3 and 5 go to the first buffer, 2 and 4 to the second; `finder::last_picture` finds the last.
 pub fn erode(
     depth: Depth,
     w: usize,
@@ -210,36 +209,4 @@ pub fn dilate(
         first,
         second,
     )
-}
-
-// The last picture of a chained run, its own bytes out of the two work buffers:
-// results 1, 3 and 5 went to the first, 2 and 4 to the second.
-pub fn last_picture<'a>(
-    first: &'a [u8],
-    second: &'a [u8],
-    depth: Depth,
-    w: usize,
-    h: usize,
-    links: usize,
-) -> &'a [u8]
-    ensures { λ r. ⌜ now r ≡ foundAt (now (first .entry)) (now (second .entry)) depth w h links ⌝ }
-{
-    if !picture::sized(w, h) {
-        return &first[..0];
-    }
-    if !chain::is_counted(links) {
-        return &first[..0];
-    }
-    let n = picture::picture_bytes(depth, w, h);
-    if first.len() < n {
-        return &first[..0];
-    }
-    if second.len() < n {
-        return &first[..0];
-    }
-    if links % 2 == 1 {
-        &first[..n]
-    } else {
-        &second[..n]
-    }
 }

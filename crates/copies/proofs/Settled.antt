@@ -1,6 +1,7 @@
 -- Any two outcomes that a contract allows of one call are the same: for each public function, of its contract
 -- itself, as the prover reads it.
-use Rattle.basics.proofs.Settled.{SettlesBytes, settled}
+use Rattle.basics.specs.Settles.{SettlesBytes}
+use Rattle.basics.proofs.Settled.{settled}
 use Rattle.copies.proofs.copy_picture.Kinds as copy-picture-kinds
 use Rattle.copies.proofs.copy_picture.Reads as copy-picture
 

@@ -1,11 +1,14 @@
 -- Demand 1: every input gets exactly one answer, and which; and a refusal changes no lent byte.
 -- That there is an answer at all, the prover has it: no function here asks anything of its caller.
 -- That there are not two: proofs/Settled.antt of crates flat, hit and weighted.
-use Prim.Native.Nat.{min}
+use Prim.Native.Nat.{ℕ}
+use mathlib.Core.Path.{_≡_, ap, _∙_}
+use mathlib.Core.Bool.{cond}
 use mathlib.Core.Logic.{_↔_}
 use lib.Dec.{T}
 use lib.ListN.{length}
 use Rattle.answer.specs.Answer.{told}
+use Rattle.answer.specs.Refuse.{FirstHolds}
 use Rattle.element.specs.Shape.{Shape, Offset}
 use Rattle.morphology.specs.Step.{Has}
 use Rattle.morphology.specs.Overlap.{shared}
@@ -28,11 +31,20 @@ use Rattle.weighted.proofs.open.Kinds as weighted-open-kinds
 use Rattle.weighted.proofs.open.Reads as weighted-open-reads
 use Rattle.weighted.proofs.close.Kinds as weighted-close-kinds
 use Rattle.weighted.proofs.close.Reads as weighted-close-reads
+use Rattle.ech.specs.File.{kindOf, pingsOf, binsOf}
+use Rattle.ech.specs.ReadWrite.{readAnswer, readTarget, writeAnswer, writeTarget}
+use Rattle.ech.proofs.read_ech.Kinds as read-kinds
+use Rattle.ech.proofs.read_ech.Reads as read-reads
+use Rattle.ech.proofs.write_ech.Kinds as write-kinds
+use Rattle.ech.proofs.write_ech.Reads as write-reads
 use Rattle.demands.specs.Demands.{Every, Exactly, Kept}
-use Rattle.demands.proofs.Laws.{exactly-of, kept-of}
-use Rattle.demands.proofs.Arguments.{tests-numbered, call, testsOnce, twice, testsTwice, hitCall}
-use Rattle.demands.proofs.Arguments.{testsHit, weightedCall, weightedOnce, weightedTwice}
-use Rattle.demands.proofs.Arguments.{weightedBoth, weighted-tests-numbered, hit-tests-numbered}
+use Rattle.demands.proofs.Laws.{refused-not, exactly-of, kept-of}
+use Rattle.demands.specs.Calls.{call, testsOnce, twice, roomTwice, testsTwice}
+use Rattle.demands.specs.WeightedCalls.{weightedCall, weightedOnce, weightedTwice, weightedBoth}
+use Rattle.demands.specs.HitCalls.{hitCall, testsHit}
+use Rattle.demands.specs.FileCalls.{readCall, testsRead, writeCall, testsWrite}
+use Rattle.demands.proofs.Numbered.{tests-numbered, weighted-tests-numbered, hit-tests-numbered}
+use Rattle.demands.proofs.Numbered.{read-tests-numbered, write-tests-numbered}
 
 pub erode-exactly : Every 3 erode-kinds.ps erode-kinds.r erode-reads.Learnt
     (λ κs a r e. let c = call κs a e in Exactly (testsOnce c) (told r))
@@ -60,41 +72,41 @@ pub open-exactly : Every 4 open-kinds.ps open-kinds.r open-reads.Learnt
     (λ κs a r e. let c = twice κs a e in Exactly (testsTwice c) (told r))
 open-exactly κs a r e p = let c = twice κs a e in
     exactly-of (testsTwice c) (told r)
-    (tests-numbered (c .to-target) (min (length (c .to-target .before)) (length (c .before)))) (p .0)
+    (tests-numbered (c .to-target) (roomTwice c)) (p .0)
 
 pub open-kept : Every 4 open-kinds.ps open-kinds.r open-reads.Learnt
     (λ κs a r e. let c = twice κs a e in Kept (testsTwice c) (c .to-target .before) (c .to-target .after))
 open-kept κs a r e p =
     kept-of (testsTwice (twice κs a e)) _ _ _
     (let c = twice κs a e in
-    tests-numbered (c .to-target) (min (length (c .to-target .before)) (length (c .before)))) (p .1 .0)
+    tests-numbered (c .to-target) (roomTwice c)) (p .1 .0)
 
 pub open-kept-scratch : Every 4 open-kinds.ps open-kinds.r open-reads.Learnt
     (λ κs a r e. let c = twice κs a e in Kept (testsTwice c) (c .before) (c .after))
 open-kept-scratch κs a r e p =
     kept-of (testsTwice (twice κs a e)) _ _ _
     (let c = twice κs a e in
-    tests-numbered (c .to-target) (min (length (c .to-target .before)) (length (c .before)))) (p .1 .1)
+    tests-numbered (c .to-target) (roomTwice c)) (p .1 .1)
 
 pub close-exactly : Every 4 close-kinds.ps close-kinds.r close-reads.Learnt
     (λ κs a r e. let c = twice κs a e in Exactly (testsTwice c) (told r))
 close-exactly κs a r e p = let c = twice κs a e in
     exactly-of (testsTwice c) (told r)
-    (tests-numbered (c .to-target) (min (length (c .to-target .before)) (length (c .before)))) (p .0)
+    (tests-numbered (c .to-target) (roomTwice c)) (p .0)
 
 pub close-kept : Every 4 close-kinds.ps close-kinds.r close-reads.Learnt
     (λ κs a r e. let c = twice κs a e in Kept (testsTwice c) (c .to-target .before) (c .to-target .after))
 close-kept κs a r e p =
     kept-of (testsTwice (twice κs a e)) _ _ _
     (let c = twice κs a e in
-    tests-numbered (c .to-target) (min (length (c .to-target .before)) (length (c .before)))) (p .1 .0)
+    tests-numbered (c .to-target) (roomTwice c)) (p .1 .0)
 
 pub close-kept-scratch : Every 4 close-kinds.ps close-kinds.r close-reads.Learnt
     (λ κs a r e. let c = twice κs a e in Kept (testsTwice c) (c .before) (c .after))
 close-kept-scratch κs a r e p =
     kept-of (testsTwice (twice κs a e)) _ _ _
     (let c = twice κs a e in
-    tests-numbered (c .to-target) (min (length (c .to-target .before)) (length (c .before)))) (p .1 .1)
+    tests-numbered (c .to-target) (roomTwice c)) (p .1 .1)
 
 pub hit-or-miss-exactly : Every 4 hit-or-miss-kinds.ps hit-or-miss-kinds.r
     hit-or-miss-reads.Learnt (λ κs a r e. let c = hitCall κs a e in Exactly (testsHit c) (told r))
@@ -138,7 +150,7 @@ pub weighted-open-exactly : Every 4 weighted-open-kinds.ps weighted-open-kinds.r
 weighted-open-exactly κs a r e p =
     let c = weightedTwice κs a e in
     exactly-of (weightedBoth c) (told r)
-    (weighted-tests-numbered (c .to-target) (min (length (c .to-target .before)) (length (c .before)))) (p .0)
+    (weighted-tests-numbered (c .to-target) (roomTwice c)) (p .0)
 
 pub weighted-open-kept : Every 4 weighted-open-kinds.ps weighted-open-kinds.r weighted-open-reads.Learnt
     (λ κs a r e. let c = weightedTwice κs a e in
@@ -146,7 +158,7 @@ pub weighted-open-kept : Every 4 weighted-open-kinds.ps weighted-open-kinds.r we
 weighted-open-kept κs a r e p =
     kept-of (weightedBoth (weightedTwice κs a e)) _ _ _
     (let c = weightedTwice κs a e in weighted-tests-numbered (c .to-target)
-    (min (length (c .to-target .before)) (length (c .before)))) (p .1 .0)
+    (roomTwice c)) (p .1 .0)
 
 pub weighted-open-kept-scratch : Every 4 weighted-open-kinds.ps
     weighted-open-kinds.r weighted-open-reads.Learnt
@@ -154,7 +166,7 @@ pub weighted-open-kept-scratch : Every 4 weighted-open-kinds.ps
 weighted-open-kept-scratch κs a r e p =
     kept-of (weightedBoth (weightedTwice κs a e)) _ _ _
     (let c = weightedTwice κs a e in weighted-tests-numbered (c .to-target)
-    (min (length (c .to-target .before)) (length (c .before)))) (p .1 .1)
+    (roomTwice c)) (p .1 .1)
 
 pub weighted-close-exactly : Every 4 weighted-close-kinds.ps
     weighted-close-kinds.r weighted-close-reads.Learnt
@@ -162,7 +174,7 @@ pub weighted-close-exactly : Every 4 weighted-close-kinds.ps
 weighted-close-exactly κs a r e p =
     let c = weightedTwice κs a e in
     exactly-of (weightedBoth c) (told r)
-    (weighted-tests-numbered (c .to-target) (min (length (c .to-target .before)) (length (c .before)))) (p .0)
+    (weighted-tests-numbered (c .to-target) (roomTwice c)) (p .0)
 
 pub weighted-close-kept : Every 4 weighted-close-kinds.ps weighted-close-kinds.r weighted-close-reads.Learnt
     (λ κs a r e. let c = weightedTwice κs a e in
@@ -170,7 +182,7 @@ pub weighted-close-kept : Every 4 weighted-close-kinds.ps weighted-close-kinds.r
 weighted-close-kept κs a r e p =
     kept-of (weightedBoth (weightedTwice κs a e)) _ _ _
     (let c = weightedTwice κs a e in weighted-tests-numbered (c .to-target)
-    (min (length (c .to-target .before)) (length (c .before)))) (p .1 .0)
+    (roomTwice c)) (p .1 .0)
 
 pub weighted-close-kept-scratch : Every 4 weighted-close-kinds.ps
     weighted-close-kinds.r weighted-close-reads.Learnt
@@ -178,7 +190,47 @@ pub weighted-close-kept-scratch : Every 4 weighted-close-kinds.ps
 weighted-close-kept-scratch κs a r e p =
     kept-of (weightedBoth (weightedTwice κs a e)) _ _ _
     (let c = weightedTwice κs a e in weighted-tests-numbered (c .to-target)
-    (min (length (c .to-target .before)) (length (c .before)))) (p .1 .1)
+    (roomTwice c)) (p .1 .1)
+
+-- files
+pub read-exactly : Every 2 read-kinds.ps read-kinds.r read-reads.Learnt
+    (λ κs a r e. let d = readCall κs a e in Exactly (testsRead d) (told (r .answer)))
+unfolding readAnswer
+read-exactly κs a r e p = let d = readCall κs a e in
+    exactly-of (testsRead d) (told (r .answer)) (read-tests-numbered d) (p .0 .answer)
+
+pub read-kept : Every 2 read-kinds.ps read-kinds.r read-reads.Learnt
+    (λ κs a r e. let d = readCall κs a e in Kept (testsRead d) (d .before) (d .after))
+unfolding readAnswer readTarget
+read-kept κs a r e p =
+    kept-of (testsRead (readCall κs a e)) _ _ _ (read-tests-numbered (readCall κs a e)) (p .1)
+
+-- a refused read gives 0 for kind, W and H
+pub read-gives-none : Every 2 read-kinds.ps read-kinds.r read-reads.Learnt
+    (λ κs a r e. (n : ℕ) → FirstHolds (testsRead (readCall κs a e)) n
+    → (r .kind ≡ 0) × ((r .w ≡ 0) × (r .h ≡ 0)))
+unfolding readAnswer
+read-gives-none κs a r e p n f =
+    let d = readCall κs a e in
+    let no = refused-not (testsRead d) n (read-tests-numbered d) f in (
+      p .0 .kind ∙ ap (λ b. cond b (kindOf (d .file)) 0) no,
+      (
+        p .0 .pings ∙ ap (λ b. cond b (pingsOf (d .file)) 0) no,
+        p .0 .bins ∙ ap (λ b. cond b (binsOf (d .file)) 0) no,
+      ),
+    )
+
+pub write-exactly : Every 2 write-kinds.ps write-kinds.r write-reads.Learnt
+    (λ κs a r e. let c = writeCall κs a e in Exactly (testsWrite c) (told r))
+unfolding writeAnswer
+write-exactly κs a r e p = let c = writeCall κs a e in
+    exactly-of (testsWrite c) (told r) (write-tests-numbered c) (p .0)
+
+pub write-kept : Every 2 write-kinds.ps write-kinds.r write-reads.Learnt
+    (λ κs a r e. let c = writeCall κs a e in Kept (testsWrite c) (c .before) (c .after))
+unfolding writeAnswer writeTarget
+write-kept κs a r e p =
+    kept-of (testsWrite (writeCall κs a e)) _ _ _ (write-tests-numbered (writeCall κs a e)) (p .1)
 
 -- OVERLAP is given where some offset is one of both elements: the test holds exactly there
 pub overlap-exactly : (B C : Shape) → T (shared B C) ↔ ((o : Offset) × (Has B o × Has C o))

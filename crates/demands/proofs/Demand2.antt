@@ -27,9 +27,10 @@ use Rattle.weighted.proofs.close.Kinds as weighted-close-kinds
 use Rattle.weighted.proofs.close.Reads as weighted-close-reads
 use Rattle.demands.specs.Demands.{Every, Shows}
 use Rattle.demands.proofs.Laws.{shows-of, hit-one, never-one}
-use Rattle.demands.proofs.Arguments.{within, picture, element, call, testsOnce, twice}
-use Rattle.demands.proofs.Arguments.{testsTwice, hitCall, testsHit, weightedElement}
-use Rattle.demands.proofs.Arguments.{weightedCall, weightedOnce, weightedTwice, weightedBoth}
+use Rattle.demands.specs.Calls.{within, picture, element, call, testsOnce, twice, testsTwice}
+use Rattle.demands.specs.WeightedCalls.{weightedElement, weightedCall, weightedOnce}
+use Rattle.demands.specs.WeightedCalls.{weightedTwice, weightedBoth}
+use Rattle.demands.specs.HitCalls.{hitCall, testsHit}
 
 pub erode-shows : Every 3 erode-kinds.ps erode-kinds.r erode-reads.Learnt
     (λ κs a r e. let c = call κs a e in Shows (testsOnce c) (c .depth) (c .w)

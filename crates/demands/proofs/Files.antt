@@ -1,92 +1,24 @@
 -- Demand 2 of files: a file written and read gives the same picture;
 -- an accepted file read and written gives the same bytes. Of every outcome
 -- that the contracts of `write_ech` and `read_ech` allow. The bytes of a slice are below 256.
-use Prim.Native.Nat.{ℕ, _+_, _≤_}
+use Prim.Native.Nat.{ℕ, _+_}
 use mathlib.Core.Path.{_≡_, sym, ap, ap₂, subst, _∙_}
 use mathlib.Core.Bool.{true, cond}
 use mathlib.Core.List.{List, _++_}
-use borrow.Fn.Kinds.{Dens, endedOf}
-use denote.Triple.Clauses.{AtExit}
-use contract.Lifetimes.{Lfts}
 use lib.ListN.{length, take, drop, length-append}
 use lib.Seq.{take-at}
-use Rattle.answer.specs.declared.Answer.{Answer}
-use Rattle.answer.specs.Answer.{told, isDone}
+use Rattle.answer.specs.Answer.{isDone}
 use Rattle.answer.specs.Lent.{unlessRefused}
-use Rattle.picture.specs.Frame.{pictureBytes}
 use Rattle.picture.proofs.Bytes.{bytes-long}
 use Rattle.ech.specs.declared.Header.{Header}
-use Rattle.ech.specs.File.{headBytes, depthOf, kindOf, pingsOf, binsOf, headOf, fileOf}
+use Rattle.ech.specs.File.{depthOf, kindOf, pingsOf, binsOf, headOf, fileOf}
 use Rattle.ech.specs.ReadWrite.{GivenBack, readAnswer, readTarget, writeAnswer, writeTarget}
 use Rattle.ech.proofs.Writing.{head-long}
 use Rattle.ech.proofs.RoundTrip.{SamePicture, written-then-read, SameBytes, read-then-written}
-use Rattle.basics.specs.Bytes.{Bytes}
-use Rattle.ech.proofs.write_ech.Kinds as write-kinds
-use Rattle.ech.proofs.write_ech.Reads as write
-use Rattle.ech.proofs.read_ech.Kinds as read-kinds
-use Rattle.ech.proofs.read_ech.Reads as read
-use Rattle.demands.specs.Demands.{Every}
-
--- a call of the writer, and of the reader, with their targets before and after
-pub record WriteCall : Type 0 where
-  pub kind : ℕ
-  pub w : ℕ
-  pub h : ℕ
-  pub source : List ℕ
-  pub before : List ℕ
-  pub after : List ℕ
-
-abbrev pub writeCall : (κs : Lfts 2) → Dens κs write-kinds.ps
-    → AtExit (endedOf 2 write-kinds.ps write-kinds.r) κs → WriteCall
-writeCall κs a e =
-    record {
-      kind = a .0;
-      w = a .1 .0;
-      h = a .1 .1 .0;
-      source = a .1 .1 .1 .0 .now;
-      before = a .1 .1 .1 .1 .0 .now;
-      after = e .1 .1 .1 .1 .0 .now;
-    }
-
-pub record ReadCall : Type 0 where
-  pub file : List ℕ
-  pub before : List ℕ
-  pub after : List ℕ
-
-abbrev pub readCall : (κs : Lfts 2) → Dens κs read-kinds.ps
-    → AtExit (endedOf 2 read-kinds.ps read-kinds.r) κs → ReadCall
-readCall κs a e = record { file = a .0 .now; before = a .1 .0 .now; after = e .1 .0 .now }
-
--- the bytes of the picture, and of its file
-abbrev pub pictureLength : ℕ → ℕ → ℕ → ℕ
-pictureLength kind w h = pictureBytes (depthOf kind) w h
-
-abbrev pub fileLength : ℕ → ℕ → ℕ → ℕ
-fileLength kind w h = headBytes + pictureLength kind w h
+use Rattle.demands.specs.FileCalls.{WriteCall, writeCall, ReadCall, readCall}
+use Rattle.demands.specs.Files.{pictureLength, fileLength, ReadBack, WrittenThenRead, ReadThenWritten}
 
 -- ---- written, then read
--- what is read of the file that c wrote: done, the same kind and size,
--- and the same bytes of the picture; the further bytes of the target stay
-pub record ReadBack (c : WriteCall) (d : ReadCall) (back : Header) : Type 0 where
-  pub done : isDone (told (back .answer)) ≡ true
-  pub kind : back .kind ≡ c .kind
-  pub pings : back .w ≡ c .w
-  pub bins : back .h ≡ c .h
-  pub bytes : d .after ≡ c .source ++ drop (pictureLength (c .kind) (c .w) (c .h)) (d .before)
-
--- of a write that is done, and a read of its file's own bytes with room for the picture
-abbrev pub WrittenThenRead : Type 0
-WrittenThenRead =
-    Every 2 write-kinds.ps write-kinds.r write.Learnt (λ κs a x e.
-    Every 2 read-kinds.ps read-kinds.r read.Learnt (λ κs' a' x' e'.
-    Bytes (writeCall κs a e .source) → isDone (told x) ≡ true
-    → readCall κs' a' e' .file
-    ≡ take (fileLength (writeCall κs a e .kind) (writeCall κs a e .w) (writeCall κs a e .h))
-    (writeCall κs a e .after)
-    → pictureLength (writeCall κs a e .kind) (writeCall κs a e .w) (writeCall κs a e .h)
-    ≤ length (readCall κs' a' e' .before)
-    → ReadBack (writeCall κs a e) (readCall κs' a' e') x'))
-
 file-long : (kind w h : ℕ) (s : List ℕ) → length (fileOf kind w h s) ≡ fileLength kind w h
 unfolding fileOf
 file-long kind w h s =
@@ -127,22 +59,6 @@ written-and-read κs a x e learnt κs' a' x' e' learnt' bytes done file room =
     (readCall κs' a' e' .before) bytes written room) (learnt' .0) (learnt' .1)
 
 -- ---- read, then written
--- of a read that is done, and a write of the picture's own bytes with what the reader gave for kind and size,
--- with room for the file: done, and the bytes of the file that was read; the further bytes of the target stay
-pub record WrittenBack (d : ReadCall) (c : WriteCall) (answer : Answer) : Type 0 where
-  pub done : isDone (told answer) ≡ true
-  pub bytes : c .after ≡ d .file ++ drop (length (d .file)) (c .before)
-
-abbrev pub ReadThenWritten : Type 0
-ReadThenWritten =
-    Every 2 read-kinds.ps read-kinds.r read.Learnt (λ κs a x e.
-    Every 2 write-kinds.ps write-kinds.r write.Learnt (λ κs' a' x' e'.
-    Bytes (readCall κs a e .file) → isDone (told (x .answer)) ≡ true
-    → writeCall κs' a' e' .kind ≡ x .kind → writeCall κs' a' e' .w ≡ x .w → writeCall κs' a' e' .h ≡ x .h
-    → writeCall κs' a' e' .source ≡ take (pictureLength (x .kind) (x .w) (x .h)) (readCall κs a e .after)
-    → length (readCall κs a e .file) ≤ length (writeCall κs' a' e' .before)
-    → WrittenBack (readCall κs a e) (writeCall κs' a' e') x'))
-
 same-call : (f p t : List ℕ) (kind w h : ℕ) (s : List ℕ) → kind ≡ kindOf f
     → w ≡ pingsOf f → h ≡ binsOf f → s ≡ p → SameBytes f p t
     → (isDone (writeAnswer kind w h s t) ≡ true) × (writeTarget kind w h s t ≡ f ++ drop (length f) t)

@@ -3,62 +3,28 @@
 use Prim.Native.Nat.{ℕ, _≤_, _<_}
 use mathlib.Core.Path.{_≡_, refl, sym, ap, ap₂, _∙_}
 use mathlib.Core.Bool.{false, cond, _||_}
-use mathlib.Core.List.{List, [], _∷_}
+use mathlib.Core.List.{List, []}
 use borrow.Author.Tests.{ne-eqb, le-ltb}
-use borrow.Fn.Kinds.{Dens, endedOf}
-use denote.Triple.Clauses.{AtExit}
-use contract.Lifetimes.{Lfts}
 use lib.Dec.{lit<}
 use lib.ListN.{length}
 use Rattle.answer.specs.declared.Told.{Told}
 use Rattle.answer.specs.Answer.{told, plain, isDone}
-use Rattle.answer.specs.Refuse.{Test, FirstHolds, here, later, NoneHolds}
+use Rattle.answer.specs.Refuse.{FirstHolds, NoneHolds}
 use Rattle.answer.proofs.Order.{Numbered, exactly, done-exactly}
 use Rattle.answer.specs.Lent.{unlessRefused}
 use Rattle.answer.proofs.Lent.{not-done, all-done, kept-by}
-use Rattle.element.specs.Descriptor.{shapeIn}
-use Rattle.ech.specs.File.{depthOf, kindOf, pingsOf, binsOf}
-use Rattle.ech.specs.ReadWrite.{pictureOf}
-use Rattle.text.specs.Text.{textOf, refusedLine}
+use Rattle.text.specs.Text.{refusedLine}
 use Rattle.work.specs.declared.Operation.{Operation}
-use Rattle.job.specs.Job.{letterOf, operationOf, elementIn, fileIn, jobTests, jobAnswer}
-use Rattle.work.specs.Work.{shortest, operated, textIn}
+use Rattle.job.specs.Job.{letterOf, operationOf, elementIn, fileIn, jobAnswer}
+use Rattle.work.specs.Work.{textIn}
 use Rattle.work.specs.Prints.{mostRefused, refusalOf, printed, over, pictureAfter, resultAfter, scratchAfter}
 use Rattle.job.proofs.run_job.Kinds as kinds
 use Rattle.job.proofs.run_job.Reads as reads
 use Rattle.demands.specs.Demands.{Every, Exactly, Kept}
-use Rattle.demands.proofs.Laws.{exactly-of}
+use Rattle.demands.specs.Jobs.{JobCall, jobCall, testsJob, textOfJob}
+use Rattle.demands.proofs.Laws.{first-some, exactly-of}
 
--- the arguments of a job, and its buffers before and after
-pub record JobCall : Type 0 where
-  pub job : List ℕ
-  pub picture : List ℕ
-  pub result : List ℕ
-  pub scratch : List ℕ
-  pub text : List ℕ
-  pub picture-after : List ℕ
-  pub result-after : List ℕ
-  pub scratch-after : List ℕ
-  pub text-after : List ℕ
-
-abbrev pub jobCall : (κs : Lfts 5) → Dens κs kinds.ps → AtExit (endedOf 5 kinds.ps kinds.r) κs → JobCall
-jobCall κs a e =
-    record {
-      job = a .0 .now;
-      picture = a .1 .0 .now;
-      result = a .1 .1 .0 .now;
-      scratch = a .1 .1 .1 .0 .now;
-      text = a .1 .1 .1 .1 .0 .now;
-      picture-after = e .1 .0 .now;
-      result-after = e .1 .1 .0 .now;
-      scratch-after = e .1 .1 .1 .0 .now;
-      text-after = e .1 .1 .1 .1 .0 .now;
-    }
-
-abbrev pub tests : JobCall → List Test
-tests c = jobTests (c .job) (shortest (c .picture) (c .result) (c .scratch)) (length (c .text))
-
-numbered : (c : JobCall) → Numbered (tests c)
+numbered : (c : JobCall) → Numbered (testsJob c)
 numbered c = (
   lit< tt,
   (
@@ -67,35 +33,23 @@ numbered c = (
   ),
 )
 
--- the text of the operation that the letter asks for, by the job's element, of the file's picture
-abbrev pub textOfJob : List ℕ → List ℕ
-textOfJob job =
-    textOf (depthOf (kindOf (fileIn job)))
-    (operated (operationOf (letterOf job)) (depthOf (kindOf (fileIn job))) (pingsOf (fileIn job))
-    (binsOf (fileIn job)) (shapeIn (elementIn job)) (pictureOf (fileIn job)))
-    (pingsOf (fileIn job)) (binsOf (fileIn job)) (kindOf (fileIn job))
-
--- ---- the first test that holds has a number, and then the answer is a refusal
-first-some : (ts : List Test) (n : ℕ) → Numbered ts → FirstHolds ts n → 0 < n
-first-some (t ∷ ts) n some here = some .0
-first-some (t ∷ ts) n some (later f) = first-some ts n (some .1) f
-
+-- ---- where a test holds the answer is a refusal
 module _ (c : JobCall) where
   abbrev answer : Told
   answer = jobAnswer (c .job) (c .picture) (c .result) (c .scratch) (c .text)
 
-  refused-is : (n : ℕ) → FirstHolds (tests c) n → answer ≡ plain n
+  refused-is : (n : ℕ) → FirstHolds (testsJob c) n → answer ≡ plain n
   unfolding jobAnswer
-  refused-is n f = exactly (tests c) n (first-some (tests c) n (numbered c) f) .1 f
+  refused-is n f = exactly (testsJob c) n (first-some (testsJob c) n (numbered c) f) .1 f
 
-  refused-not : (n : ℕ) → FirstHolds (tests c) n → isDone answer ≡ false
-  refused-not n f = ap isDone (refused-is n f) ∙ not-done n (first-some (tests c) n (numbered c) f)
+  refused-not : (n : ℕ) → FirstHolds (testsJob c) n → isDone answer ≡ false
+  refused-not n f = ap isDone (refused-is n f) ∙ not-done n (first-some (testsJob c) n (numbered c) f)
 
-  done-is : NoneHolds (tests c) → answer ≡ plain 0
+  done-is : NoneHolds (testsJob c) → answer ≡ plain 0
   unfolding jobAnswer
-  done-is f = done-exactly (tests c) (numbered c) .1 f
+  done-is f = done-exactly (testsJob c) (numbered c) .1 f
 
-  line-is : (n : ℕ) → FirstHolds (tests c) n → (n ≡ 8 → ⊥) → mostRefused ≤ length (c .text)
+  line-is : (n : ℕ) → FirstHolds (testsJob c) n → (n ≡ 8 → ⊥) → mostRefused ≤ length (c .text)
       → printed answer (operationOf (letterOf (c .job)))
       (elementIn (c .job)) (fileIn (c .job)) (length (c .text))
       ≡ refusedLine n
@@ -107,7 +61,7 @@ module _ (c : JobCall) where
       ∙ ap₂ (λ a b. cond (a || b) [] (refusedLine n))
       (ne-eqb n 8 ne) (le-ltb (length (c .text)) mostRefused l)
 
-  none-is : FirstHolds (tests c) 8
+  none-is : FirstHolds (testsJob c) 8
       → printed answer (operationOf (letterOf (c .job)))
       (elementIn (c .job)) (fileIn (c .job)) (length (c .text))
       ≡ []
@@ -117,7 +71,7 @@ module _ (c : JobCall) where
       (refusalOf answer (length (c .text)))) (refused-not 8 f)
       ∙ ap (λ a. refusalOf a (length (c .text))) (refused-is 8 f)
 
-  text-is : NoneHolds (tests c)
+  text-is : NoneHolds (testsJob c)
       → printed answer (operationOf (letterOf (c .job)))
       (elementIn (c .job)) (fileIn (c .job)) (length (c .text))
       ≡ textOfJob (c .job)
@@ -150,44 +104,45 @@ prints l k t t' n e en et = (en ∙ ap length e, et ∙ ap (λ l. over l t) e)
 -- ---- demand 1: each refusal exactly under its condition and none earlier in the order,
 -- and no work buffer is changed by one
 pub job-exactly : Every 5 kinds.ps kinds.r reads.Learnt
-    (λ κs a r e. Exactly (tests (jobCall κs a e)) (told (r .answer)))
+    (λ κs a r e. Exactly (testsJob (jobCall κs a e)) (told (r .answer)))
 unfolding jobAnswer
-job-exactly κs a r e p = let c = jobCall κs a e in exactly-of (tests c) (told (r .answer)) (numbered c) (p .0)
+job-exactly κs a r e p = let c = jobCall κs a e in
+    exactly-of (testsJob c) (told (r .answer)) (numbered c) (p .0)
 
 pub job-kept-picture : Every 5 kinds.ps kinds.r reads.Learnt
-    (λ κs a r e. let c = jobCall κs a e in Kept (tests c) (c .picture) (c .picture-after))
+    (λ κs a r e. let c = jobCall κs a e in Kept (testsJob c) (c .picture) (c .picture-after))
 job-kept-picture κs a r e p n f = let c = jobCall κs a e in
     p .1 .1 .0
     ∙ picture-was _ (operationOf (letterOf (c .job))) (elementIn (c .job)) _ (c .picture) (refused-not c n f)
 
 pub job-kept-result : Every 5 kinds.ps kinds.r reads.Learnt
-    (λ κs a r e. let c = jobCall κs a e in Kept (tests c) (c .result) (c .result-after))
+    (λ κs a r e. let c = jobCall κs a e in Kept (testsJob c) (c .result) (c .result-after))
 job-kept-result κs a r e p n f = let c = jobCall κs a e in
     p .1 .1 .1 .0
     ∙ result-was _ (operationOf (letterOf (c .job))) (elementIn (c .job)) _ (c .result) (refused-not c n f)
 
 pub job-kept-scratch : Every 5 kinds.ps kinds.r reads.Learnt
-    (λ κs a r e. let c = jobCall κs a e in Kept (tests c) (c .scratch) (c .scratch-after))
+    (λ κs a r e. let c = jobCall κs a e in Kept (testsJob c) (c .scratch) (c .scratch-after))
 job-kept-scratch κs a r e p n f = let c = jobCall κs a e in
     p .1 .1 .1 .1 .0
     ∙ scratch-was _ (operationOf (letterOf (c .job))) (elementIn (c .job)) _ (c .scratch) (refused-not c n f)
 
 -- a refusal prints only its line
 pub job-prints-refusal : Every 5 kinds.ps kinds.r reads.Learnt (λ κs a r e. let c = jobCall κs a e in
-    (n : ℕ) → FirstHolds (tests c) n → (n ≡ 8 → ⊥) → mostRefused ≤ length (c .text)
+    (n : ℕ) → FirstHolds (testsJob c) n → (n ≡ 8 → ⊥) → mostRefused ≤ length (c .text)
     → (r .printed ≡ length (refusedLine n)) × (c .text-after ≡ over (refusedLine n) (c .text)))
 job-prints-refusal κs a r e p n f ne l = let c = jobCall κs a e in
     prints _ _ (c .text) (c .text-after) (r .printed) (line-is c n f ne l) (p .1 .0) (p .1 .1 .1 .1 .1)
 
 -- and ROOM nothing at all
 pub job-room : Every 5 kinds.ps kinds.r reads.Learnt (λ κs a r e. let c = jobCall κs a e in
-    FirstHolds (tests c) 8 → (r .printed ≡ 0) × (c .text-after ≡ c .text))
+    FirstHolds (testsJob c) 8 → (r .printed ≡ 0) × (c .text-after ≡ c .text))
 job-room κs a r e p f = let c = jobCall κs a e in
     prints _ _ (c .text) (c .text-after) (r .printed) (none-is c f) (p .1 .0) (p .1 .1 .1 .1 .1)
 
 -- ---- demand 2: where nothing is refused, what is printed is the text of the definition's result
 pub job-prints : Every 5 kinds.ps kinds.r reads.Learnt (λ κs a r e. let c = jobCall κs a e in
-    NoneHolds (tests c)
+    NoneHolds (testsJob c)
     → (r .printed ≡ length (textOfJob (c .job))) × (c .text-after ≡ over (textOfJob (c .job)) (c .text)))
 job-prints κs a r e p f = let c = jobCall κs a e in
     prints _ _ (c .text) (c .text-after) (r .printed) (text-is c f) (p .1 .0) (p .1 .1 .1 .1 .1)

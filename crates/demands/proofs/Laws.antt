@@ -1,14 +1,15 @@
 -- The demands follow from a contract's equations.
 use Prim.Native.Nat.{ℕ, _≤_, _<_}
 use mathlib.Core.Path.{_≡_, sym, ap, _∙_}
-use mathlib.Core.List.{List}
+use mathlib.Core.Bool.{false}
+use mathlib.Core.List.{List, _∷_}
 use native.Mathlib.Omega.{arith}
 use Rattle.answer.specs.declared.Told.{Told}
-use Rattle.answer.specs.Answer.{plain}
-use Rattle.answer.specs.Refuse.{Test, refuse}
+use Rattle.answer.specs.Answer.{plain, isDone}
+use Rattle.answer.specs.Refuse.{Test, refuse, FirstHolds, here, later}
 use Rattle.answer.specs.Lent.{unlessRefused}
 use Rattle.answer.proofs.Order.{Numbered, exactly, done-exactly}
-use Rattle.answer.proofs.Lent.{lent-kept, lent-made}
+use Rattle.answer.proofs.Lent.{not-done, lent-kept, lent-made}
 use Rattle.picture.specs.declared.Depth.{Depth}
 use Rattle.picture.specs.declared.Depth.the-variants.{OneBit, EightBit}
 use Rattle.picture.specs.Points.{valueAt}
@@ -19,6 +20,16 @@ use Rattle.morphology.specs.Operations.{flat, hitMiss}
 use Rattle.morphology.proofs.Reach.{erode-top}
 use Rattle.picture.specs.Frame.{frame}
 use Rattle.demands.specs.Demands.{Exactly, Kept, Shows}
+
+-- the first test that holds has a number
+pub first-some : (ts : List Test) (n : ℕ) → Numbered ts → FirstHolds ts n → 0 < n
+first-some (t ∷ ts) n some here = some .0
+first-some (t ∷ ts) n some (later f) = first-some ts n (some .1) f
+
+-- and the answer is then a refusal
+pub refused-not : (ts : List Test) (n : ℕ) → Numbered ts → FirstHolds ts n
+    → isDone (refuse ts (plain 0)) ≡ false
+refused-not ts n some f = let s = first-some ts n some f in ap isDone (exactly ts n s .1 f) ∙ not-done n s
 
 pub exactly-of : (ts : List Test) (answer : Told) → Numbered ts → answer ≡ refuse ts (plain 0)
     → Exactly ts answer

@@ -1,11 +1,14 @@
 pub mod Laws
-pub mod Arguments
+pub mod Numbered
 pub mod Demand1
 pub mod Demand2
+pub mod Sets
 pub mod Sums
-pub mod RunArguments
+pub mod ByNumber
+pub mod Checks
 pub mod Demand3
 pub mod Runs
 pub mod ChainedRun
+pub mod Packing
 pub mod Jobs
 pub mod Files

@@ -4,19 +4,19 @@ use Prim.Native.Nat.{ℕ, _+_, _%_, _≤_, _<_}
 use mathlib.Core.Path.{_≡_, refl, sym, ap, ap₂, _∙_, subst}
 use mathlib.Core.Bool.{Bool, true, false, not, cond}
 use mathlib.Core.Logic.{_↔_}
-use mathlib.Core.List.{List, [], _∷_, _++_, append-assoc}
+use mathlib.Core.List.{List, [], _∷_, _++_}
 use native.Mathlib.Omega.{arith}
-use borrow.Author.Tests.{eqb-true, eqb-false, ne-eqb, not-false}
+use borrow.Author.Tests.{eqb-true, eqb-false, not-false}
 use lib.Dec.{eqb, ltb, lit≤}
 use lib.ListN.{length, take, drop, length-append}
 use Rattle.answer.specs.declared.Answer.{Answer}
 use Rattle.answer.specs.declared.Answer.the-variants.{Done}
 use Rattle.answer.specs.declared.Told.{Told}
 use Rattle.answer.specs.Answer.{told, plain, isDone}
-use Rattle.answer.specs.Refuse.{Test, refuse, FirstHolds, here, later, NoneHolds, end, next}
+use Rattle.answer.specs.Refuse.{Test, refuse, NoneHolds, end, next}
 use Rattle.answer.specs.Lent.{ifDone, unlessRefused}
-use Rattle.answer.proofs.Order.{Numbered, number-of, none-given, exactly, done-exactly}
-use Rattle.answer.proofs.Lent.{all-done, two-parts}
+use Rattle.answer.proofs.Order.{Numbered, none-given}
+use Rattle.answer.proofs.Lent.{all-done, in-parts, two-parts}
 use Rattle.picture.specs.declared.Depth.{Depth}
 use Rattle.picture.specs.declared.Depth.the-variants.{OneBit}
 use Rattle.picture.specs.Frame.{top, sizedFrame, pictureBytes, frame}
@@ -31,173 +31,64 @@ use Rattle.morphology.specs.Operations.{flat}
 use Rattle.morphology.specs.Order.{Bounded}
 use Rattle.morphology.specs.Chain.{Chained, Accepted, First}
 use Rattle.morphology.specs.Demand.{Differs}
-use Rattle.morphology.specs.Check.{Verdict, Taken, Split, checkOf}
-use Rattle.morphology.specs.Worked.{takenBy}
+use Rattle.morphology.specs.Check.{checkOf}
 use Rattle.rows.specs.Steps.Ways.{sweptBy}
 use Rattle.apply.proofs.Twice.{bit-value}
 use Rattle.faults.specs.Verdicts.{answerOf}
 use Rattle.judge.specs.declared.Padding.the-variants.{Judged}
 use Rattle.judge.specs.Tests.{pictureTests, roomTests}
+use Rattle.judge.proofs.Admitted.{picture-numbered}
 use Rattle.chain.specs.Reading.{counted, chainTests, checkTests, linksIn, checked}
-use Rattle.chained.specs.Finder.{foundAt}
-use Rattle.chain.proofs.Checking.{check-numbered, some-links}
-use Rattle.chained.proofs.Finding.{in-first, in-second}
+use Rattle.finder.specs.Finder.{isThere, foundAt}
+use Rattle.chain.proofs.Checking.{some-links}
+use Rattle.finder.proofs.Finding.{both-long, in-first, in-second}
 use Rattle.chained.specs.Run.{runAnswer, eroded, dilated, inFirst, inSecond, holding, firstAfter, secondAfter}
 use Rattle.chained.specs.Steps.Buffers.{resultsBy}
 use Rattle.chained.proofs.Results.{result-bounded}
 use Rattle.chained.proofs.Buffers.{own-bytes, odd-last, even-last}
 use Rattle.chained.proofs.Answers.{Passed, passed}
 use Rattle.demands.specs.Demands.{ExactlyNumbered, Kept, Shows}
-use Rattle.demands.specs.Chains.{WellMade, splitAt, runTests}
-use Rattle.demands.proofs.RunArguments.{RunCall, roomRun, testsRun}
-use Rattle.demands.proofs.Demand3.{split-is-first, chained, done-is-same}
+use Rattle.demands.specs.Chains.{WellMade, Strength, splitAt, splitTests, runTests}
+use Rattle.demands.specs.RunCalls.{RunCall, roomRun, testsRun}
+use Rattle.demands.proofs.ByNumber.{bare, bare-refuse, bare-waits, bare-done, NoOffset, refuse-plain}
+use Rattle.demands.proofs.ByNumber.{waits-plain, done-plain, both-numbered, numbered-exactly}
+use Rattle.demands.proofs.ByNumber.{numbered-kept, split-numbered, check-bare, check-plain, check-done}
+use Rattle.demands.proofs.Checks.{split-is-first, chained, done-is-same}
 use Rattle.morphology.proofs.Verdicts.{some-top, accepted-dilated, accepted-eroded, accepted-is-same}
 
--- ---- an answer's number
-
--- an answer without its offset
-bare : Told → Told
-bare t = plain (t .number)
-
-bare-refuse : (ts : List Test) (after : Told) → bare (refuse ts after) ≡ refuse ts (bare after)
-unfolding plain bare
-bare-refuse [] after = refl
-bare-refuse ((true, n) ∷ ts) after = refl
-bare-refuse ((false, n) ∷ ts) after = bare-refuse ts after
-
-bare-waits : (first after : Told) → bare (ifDone first after) ≡ ifDone (bare first) (bare after)
-unfolding plain bare
-bare-waits first after = by (isDone first)
-  where
-    by : (b : Bool) → bare (cond b after first) ≡ cond b (bare after) (bare first)
-    by true = refl
-    by false = refl
-
-bare-verdict : (v : Verdict) → bare (told (answerOf v)) ≡ refuse ((not (takenBy v), 7) ∷ []) (plain 0)
-unfolding plain bare told answerOf takenBy
-bare-verdict Taken = refl
-bare-verdict (Split x y) = refl
-
-one-list : (ts us : List Test) (after : Told) → refuse ts (refuse us after) ≡ refuse (ts ++ us) after
-one-list [] us after = refl
-one-list ((true, n) ∷ ts) us after = refl
-one-list ((false, n) ∷ ts) us after = one-list ts us after
-
-both-numbered : (ts us : List Test) → Numbered ts → Numbered us → Numbered (ts ++ us)
-both-numbered [] us a b = b
-both-numbered (t ∷ ts) us a b = (a .0, both-numbered ts us (a .1) b)
-
--- all but SPLIT have dx 0 and dy 0
-abbrev NoOffset : Told → Type 0
-NoOffset t = (t .number ≡ 7 → ⊥) → t ≡ plain (t .number)
-
-refuse-plain : (ts : List Test) (after : Told) → NoOffset after → NoOffset (refuse ts after)
-unfolding plain
-refuse-plain [] after p = p
-refuse-plain ((true, n) ∷ ts) after p = λ s. refl
-refuse-plain ((false, n) ∷ ts) after p = refuse-plain ts after p
-
-waits-plain : (first after : Told) → NoOffset first → NoOffset after → NoOffset (ifDone first after)
-waits-plain first after p q = by (isDone first)
-  where
-    by : (b : Bool) → NoOffset (cond b after first)
-    by true = q
-    by false = p
-
-verdict-plain : (v : Verdict) → NoOffset (told (answerOf v))
-unfolding plain told answerOf
-verdict-plain Taken = λ s. refl
-verdict-plain (Split x y) = λ s. absurd (s refl)
-
-done-plain : NoOffset (plain 0)
-unfolding plain
-done-plain = λ s. refl
-
-checked-plain : (element : List ℕ) (k : ℕ) (chain : List ℕ) → NoOffset (checked element k chain)
-unfolding checked
-checked-plain element k chain =
-    refuse-plain (checkTests element k chain) _ (verdict-plain (checkOf (shapeIn element) (linksIn k chain)))
-
--- the check's answer, where it is done
-check-done : (element : List ℕ) (k : ℕ) (chain : List ℕ) → isDone (checked element k chain) ≡ true
-    → checked element k chain ≡ plain 0
-check-done element k chain e =
-    let z = eqb-true (checked element k chain .number) 0 e in
-    checked-plain element k chain (λ s. omega arith) ∙ ap plain z
+-- ---- demand 1
 
 module _ (depth : Depth) (w h : ℕ) (source element : List ℕ) (k : ℕ) (chain : List ℕ) (room : ℕ) where
   abbrev S : List Test
   S = pictureTests Judged depth w h source
 
   abbrev C : List Test
-  C = checkTests element k chain
+  C = splitTests element k chain
 
   abbrev R : List Test
   R = roomTests depth w h 0 room
 
-  abbrev verdict : Verdict
-  verdict = checkOf (shapeIn element) (linksIn k chain)
-
-  abbrev split : List Test
-  split = (not (takenBy verdict), 7) ∷ []
-
-  split-numbered : Numbered (C ++ split)
-  split-numbered = both-numbered C split (check-numbered element k chain) (lit≤ tt, tt)
-
   tests-numbered : Numbered (runTests depth w h source element k chain room)
   tests-numbered =
-      both-numbered S (C ++ (split ++ R)) (lit≤ tt, (lit≤ tt, (lit≤ tt, tt)))
-      (both-numbered C (split ++ R) (check-numbered element k chain) (lit≤ tt, (lit≤ tt, tt)))
+      picture-numbered Judged depth w h source (C ++ R)
+      (both-numbered C R (split-numbered element k chain) (lit≤ tt, tt))
 
   numbers : bare (runAnswer depth w h source element k chain room)
       ≡ refuse (runTests depth w h source element k chain room) (plain 0)
-  unfolding runAnswer checked plain bare
+  unfolding runAnswer
   numbers =
       bare-refuse S (ifDone (checked element k chain) (refuse R (plain 0)))
       ∙ ap (refuse S)
       (bare-waits (checked element k chain) (refuse R (plain 0))
-      ∙ ap₂ ifDone (bare-refuse C (told (answerOf verdict)) ∙ ap (refuse C) (bare-verdict verdict)
-      ∙ one-list C split (plain 0)) (bare-refuse R (plain 0))
-      ∙ two-parts (C ++ split) R split-numbered)
-      ∙ one-list S ((C ++ split) ++ R) (plain 0)
-      ∙ ap (λ ts. refuse (S ++ ts) (plain 0)) (append-assoc C split R)
+      ∙ ap₂ ifDone (check-bare element k chain) (bare-refuse R (plain 0) ∙ ap (refuse R) bare-done)
+      ∙ two-parts C R (split-numbered element k chain))
+      ∙ in-parts S (C ++ R) (plain 0)
 
   no-offset : NoOffset (runAnswer depth w h source element k chain room)
   unfolding runAnswer
   no-offset =
-      refuse-plain S _ (waits-plain (checked element k chain) _ (checked-plain element k chain)
+      refuse-plain S _ (waits-plain (checked element k chain) _ (check-plain element k chain)
       (refuse-plain R (plain 0) done-plain))
-
--- ---- demand 1
-
-first-some : {ts : List Test} {n : ℕ} → FirstHolds ts n → Numbered ts → 0 < n
-first-some here some = some .0
-first-some (later f) some = first-some f (some .1)
-
-module _ (ts : List Test) (t : Told) (some : Numbered ts) (b : bare t ≡ refuse ts (plain 0)) where
-  number-is : (n : ℕ) → refuse ts (plain 0) ≡ plain n → t .number ≡ n
-  unfolding bare
-  number-is n e = number-of (t .number) n (b ∙ e)
-
-  numbered-exactly : NoOffset t → ExactlyNumbered ts t
-  unfolding bare plain
-  numbered-exactly p =
-      record {
-        refused =
-            λ n h. (λ e. exactly ts n h .0 (sym b ∙ ap plain e), λ f. number-is n (exactly ts n h .1 f));
-        done = (
-          λ e. done-exactly ts some .0 (sym b ∙ ap bare e),
-          λ f. let z = number-is 0 (done-exactly ts some .1 f) in p (λ s. omega arith) ∙ ap plain z,
-        );
-        offset = p;
-      }
-
-  numbered-kept : (before after made : List ℕ) → after ≡ unlessRefused t before made → Kept ts before after
-  unfolding unlessRefused
-  numbered-kept before after made e n f =
-      let z = number-is n (exactly ts n (first-some f some) .1 f) in
-      let s = first-some f some in
-      e ∙ ap (λ b. cond b made before) (ne-eqb (t .number) 0 (λ q. omega arith))
 
 module _ (c : RunCall) (t : Told) (p : t
     ≡ runAnswer (c .depth) (c .w) (c .h) (c .source) (c .element) (c .links) (c .chain) (roomRun c)) where
@@ -222,12 +113,12 @@ module _ (c : RunCall) (t : Told) (p : t
 
 -- the answer is SPLIT dx, dy exactly when the source is as it must be,
 -- element and chain are well made, and that offset is the first, in row order,
--- at which a lone echo in some frame within the limits is dilated differently
+-- at which a lone echo of that strength, in some frame within the limits, is dilated differently
 module _ (depth : Depth) (w h : ℕ) (source element : List ℕ) (k : ℕ) (chain : List ℕ) (room : ℕ) (r : Answer)
     (p : told r ≡ runAnswer depth w h source element k chain room) (e : Offset) where
-  abbrev first-difference : Type 0
-  first-difference =
-      WellMade element k chain × First (Differs (top depth) (shapeIn element) (linksIn k chain)) e
+  abbrev first-difference : ℕ → Type 0
+  first-difference strength =
+      WellMade element k chain × First (Differs strength (shapeIn element) (linksIn k chain)) e
 
   other : (n : ℕ) → (n ≡ 7 → ⊥) → plain n ≡ splitAt e → ⊥
   unfolding plain
@@ -244,9 +135,11 @@ module _ (depth : Depth) (w h : ℕ) (source element : List ℕ) (k : ℕ) (chai
   not-room true q = other 8 (λ z. omega arith) q
   not-room false q = other 0 (λ z. omega arith) q
 
-  pub run-split : (told r ≡ splitAt e) ↔ (NoneHolds (pictureTests Judged depth w h source) × first-difference)
+  pub run-split : (strength : ℕ) → Strength depth strength
+      → (told r ≡ splitAt e)
+      ↔ (NoneHolds (pictureTests Judged depth w h source) × first-difference strength)
   unfolding runAnswer checked
-  run-split = (there, back)
+  run-split strength heard = (there, back)
     where
       Y : Told
       Y = refuse (roomTests depth w h 0 room) (plain 0)
@@ -256,19 +149,21 @@ module _ (depth : Depth) (w h : ℕ) (source element : List ℕ) (k : ℕ) (chai
       by true d q = absurd (not-room (ltb room (0 + pictureBytes depth w h)) q)
       by false d q = q
 
-      there : told r ≡ splitAt e → NoneHolds (pictureTests Judged depth w h source) × first-difference
+      there : told r ≡ splitAt e
+          → NoneHolds (pictureTests Judged depth w h source) × first-difference strength
       there t =
           let s = after-source (not (sizedFrame w h)) (not (eqb (length source) (pictureBytes depth w h)))
           (not (paddingClear depth source w h)) (ifDone (checked element k chain) Y) (sym p ∙ t) in
           let c = by (isDone (checked element k chain)) refl (s .1) in
-          (s .0, split-is-first element chain k r (t ∙ sym c) depth e .0 t)
+          (s .0, split-is-first element chain k r (t ∙ sym c) depth strength heard e .0 t)
 
-      back : NoneHolds (pictureTests Judged depth w h source) × first-difference → told r ≡ splitAt e
+      back : NoneHolds (pictureTests Judged depth w h source) × first-difference strength
+          → told r ≡ splitAt e
       back f =
           let v = answerOf (checkOf (shapeIn element) (linksIn k chain)) in
           let c : told v ≡ checked element k chain = sym (none-given (told v) (f .1 .0)) in
           p ∙ none-given (ifDone (checked element k chain) Y) (f .0)
-          ∙ ap (λ t. ifDone t Y) (sym c ∙ split-is-first element chain k v c depth e .1 (f .1))
+          ∙ ap (λ t. ifDone t Y) (sym c ∙ split-is-first element chain k v c depth strength heard e .1 (f .1))
 
 -- ---- the last picture
 
@@ -324,21 +219,30 @@ module _ (depth : Depth) (w h : ℕ) (result : ℕ → Picture)
       n : ℕ
       n = pictureBytes depth w h
 
+      -- wherever the buffers begin
+      place : ℕ × ℕ
+      place = (0, 0)
+
       count : n ≡ cond (sizedFrame w h) n 0
       count = ap (λ b. cond b n 0) (sym (y .picture .sized))
 
       longs : (n ≤ length one) × (n ≤ length two)
       longs = (first-long depth w h result k first l, second-long depth w h result k second m)
 
+      there : isThere (length one) (length two) depth w h k ≡ true
+      there =
+          sym (both-long (length one) (length two) depth w h k
+          (y .picture .sized) right n count (longs .0) (longs .1))
+
       by : (b : Bool) → eqb (k % 2) 1 ≡ b → foundAt one two depth w h k ≡ bytesOf depth (result k) w h
       by true e =
           let o = eqb-true (k % 2) 1 e in
-          sym (in-first one two depth w h k (y .picture .sized) right n count (longs .0) (longs .1) o)
+          sym (in-first one two depth w h k place place there n refl o .0)
           ∙ ap (take n) (odd-last depth w h result k first o) ∙ own-bytes depth w h (result k) first n refl
       by false e =
           let o = eqb-false (k % 2) 1 e in
           let some = some-links k right in
-          sym (in-second one two depth w h k (y .picture .sized) right n count (longs .0) (longs .1) o)
+          sym (in-second one two depth w h k place place there n refl o .0)
           ∙ ap (take n) (even-last depth w h result k second o (λ z. omega arith))
           ∙ own-bytes depth w h (result k) second n refl
 

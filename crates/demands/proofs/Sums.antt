@@ -20,7 +20,8 @@ use Rattle.weighted.proofs.erode.Reads as weighted-erode-reads
 use Rattle.weighted.proofs.dilate.Kinds as weighted-dilate-kinds
 use Rattle.weighted.proofs.dilate.Reads as weighted-dilate-reads
 use Rattle.demands.specs.Demands.{Every, Shows}
-use Rattle.demands.proofs.Arguments.{within, picture, weightedElement, weightedCall, weightedOnce}
+use Rattle.demands.specs.Calls.{within, picture}
+use Rattle.demands.specs.WeightedCalls.{weightedElement, weightedCall, weightedOnce}
 use Rattle.demands.proofs.Demand2.{weighted-erode-shows, weighted-dilate-shows}
 
 -- source and descriptor are bytes

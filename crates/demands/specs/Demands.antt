@@ -10,9 +10,11 @@ use Rattle.answer.specs.declared.Told.{Told}
 use Rattle.answer.specs.Answer.{plain}
 use Rattle.answer.specs.Refuse.{Test, FirstHolds, NoneHolds}
 use Rattle.picture.specs.declared.Depth.{Depth}
+use Rattle.picture.specs.declared.Depth.the-variants.{OneBit}
 use Rattle.picture.specs.declared.Point.{Point}
 use Rattle.picture.specs.Points.{valueAt}
 use Rattle.picture.specs.Bytes.{Picture}
+use Rattle.morphology.specs.Sets.{Points}
 
 -- demand 1: each refusal is given exactly where its test is the first to hold, and 0 exactly where none does
 pub record Exactly (tests : List Test) (answer : Told) : Type 0 where
@@ -34,6 +36,12 @@ abbrev pub Shows : List Test → Depth → ℕ → ℕ → List ℕ → Picture 
 Shows tests depth w h bytes A =
     NoneHolds tests → (p : Point) → p .ping .0 < w → p .bin .0 < h
     → valueAt depth bytes w (p .ping .0) (p .bin .0) ≡ A (p .ping .0) (p .bin .0)
+
+-- and of one bit: they have exactly the points of the set
+abbrev pub ShowsSet : List Test → ℕ → ℕ → List ℕ → Points → Type 0
+ShowsSet tests w h bytes A =
+    NoneHolds tests → (p : Point) → p .ping .0 < w → p .bin .0 < h
+    → (valueAt OneBit bytes w (p .ping .0) (p .bin .0) ≡ 1) ↔ A (record { x = p .ping .0; y = p .bin .0 })
 
 -- of every outcome that a function's contract allows, as the prover reads it:
 -- the answer x and the state e at exit of the call a

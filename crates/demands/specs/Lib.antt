@@ -1,2 +1,11 @@
 pub mod Demands
+pub mod Calls
+pub mod WeightedCalls
+pub mod HitCalls
 pub mod Chains
+pub mod ChainCalls
+pub mod RunCalls
+pub mod Runs
+pub mod FileCalls
+pub mod Files
+pub mod Jobs

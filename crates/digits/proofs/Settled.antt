@@ -1,6 +1,7 @@
 -- Any two outcomes that a contract allows of one call are the same: for each public function, of its contract
 -- itself, as the prover reads it.
-use Rattle.basics.proofs.Settled.{Settles, SettlesBytes, settled}
+use Rattle.basics.specs.Settles.{Settles, SettlesBytes}
+use Rattle.basics.proofs.Settled.{settled}
 use Rattle.digits.proofs.put_byte.Kinds as put-byte-kinds
 use Rattle.digits.proofs.put_byte.Reads as put-byte
 use Rattle.digits.proofs.put_bytes.Kinds as put-bytes-kinds

@@ -6,7 +6,8 @@ use mathlib.Core.Path.{_≡_}
 use Rattle.answer.specs.declared.Told.{Told}
 use Rattle.ech.specs.declared.Header.{Header}
 use Rattle.ech.specs.ReadWrite.{GivenBack}
-use Rattle.basics.proofs.Settled.{Settles, SettlesBytes, settled}
+use Rattle.basics.specs.Settles.{Settles, SettlesBytes}
+use Rattle.basics.proofs.Settled.{settled}
 use Rattle.ech.proofs.depth_of.Kinds as depth-of-kinds
 use Rattle.ech.proofs.depth_of.Reads as depth-of
 use Rattle.ech.proofs.judge_ech.Kinds as judge-ech-kinds

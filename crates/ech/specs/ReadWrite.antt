@@ -46,9 +46,11 @@ pub record GivenBack (answer-told : Told) (kind-read pings-read bins-read : ℕ)
   pub bins : r .h ≡ cond (isDone answer-told) bins-read 0
 
 -- the writer meets 9 for a kind it does not know, then 1, 2, 3, 8
+abbrev pub writeTests : ℕ → ℕ → ℕ → List ℕ → ℕ → List Test
+writeTests kind w h s room = (not (knownKind kind), 9) ∷ bodyTests (depthOf kind) w h s headBytes room
+
 unfoldable pub writeAnswer : ℕ → ℕ → ℕ → List ℕ → List ℕ → Told
-writeAnswer kind w h s t =
-    refuse ((not (knownKind kind), 9) ∷ bodyTests (depthOf kind) w h s headBytes (length t)) (plain 0)
+writeAnswer kind w h s t = refuse (writeTests kind w h s (length t)) (plain 0)
 
 unfoldable pub writeTarget : ℕ → ℕ → ℕ → List ℕ → List ℕ → List ℕ
 writeTarget kind w h s t =

@@ -1,7 +1,8 @@
 -- Any two outcomes that a contract allows of one call are the same:
 -- for each public function, of its contract itself, as the prover reads it.
 use Rattle.answer.proofs.OneToOne.{same-answer}
-use Rattle.basics.proofs.Settled.{Settles, settled}
+use Rattle.basics.specs.Settles.{Settles}
+use Rattle.basics.proofs.Settled.{settled}
 use Rattle.element.proofs.cell.Kinds as cell-kinds
 use Rattle.element.proofs.cell.Reads as cell
 use Rattle.element.proofs.cells_end.Kinds as cells-end-kinds

@@ -1,2 +1,1 @@
-pub mod ReadPacked
 pub mod Settled

@@ -1,6 +1,7 @@
 -- Any two outcomes that a contract allows of one call are the same:
 -- for each entry point, of its contract itself, as the prover reads it.
-use Rattle.basics.proofs.Settled.{Settles, SettlesBytes, settled}
+use Rattle.basics.specs.Settles.{Settles, SettlesBytes}
+use Rattle.basics.proofs.Settled.{settled}
 use Rattle.host.proofs.qik_erode1.Kinds as qik-erode1-kinds
 use Rattle.host.proofs.qik_erode1.Reads as qik-erode1
 use Rattle.host.proofs.qik_dilate1.Kinds as qik-dilate1-kinds
@@ -19,20 +20,6 @@ use Rattle.host.proofs.qik_close8.Kinds as qik-close8-kinds
 use Rattle.host.proofs.qik_close8.Reads as qik-close8
 use Rattle.host.proofs.qik_hit_or_miss.Kinds as qik-hit-or-miss-kinds
 use Rattle.host.proofs.qik_hit_or_miss.Reads as qik-hit-or-miss
-use Rattle.host.proofs.qik_check_chain.Kinds as qik-check-chain-kinds
-use Rattle.host.proofs.qik_check_chain.Reads as qik-check-chain
-use Rattle.host.proofs.qik_ech_read.Kinds as qik-ech-read-kinds
-use Rattle.host.proofs.qik_ech_read.Reads as qik-ech-read
-use Rattle.host.proofs.qik_ech_write.Kinds as qik-ech-write-kinds
-use Rattle.host.proofs.qik_ech_write.Reads as qik-ech-write
-use Rattle.host.proofs.qik_chain_erode1.Kinds as qik-chain-erode1-kinds
-use Rattle.host.proofs.qik_chain_erode1.Reads as qik-chain-erode1
-use Rattle.host.proofs.qik_chain_erode8.Kinds as qik-chain-erode8-kinds
-use Rattle.host.proofs.qik_chain_erode8.Reads as qik-chain-erode8
-use Rattle.host.proofs.qik_chain_dilate1.Kinds as qik-chain-dilate1-kinds
-use Rattle.host.proofs.qik_chain_dilate1.Reads as qik-chain-dilate1
-use Rattle.host.proofs.qik_chain_dilate8.Kinds as qik-chain-dilate8-kinds
-use Rattle.host.proofs.qik_chain_dilate8.Reads as qik-chain-dilate8
 use Rattle.host.proofs.qik_weighted_erode.Kinds as qik-weighted-erode-kinds
 use Rattle.host.proofs.qik_weighted_erode.Reads as qik-weighted-erode
 use Rattle.host.proofs.qik_weighted_dilate.Kinds as qik-weighted-dilate-kinds
@@ -121,72 +108,6 @@ qik-hit-or-miss-settled κs a x y s t p q = settled (p .0) (q .0)
 pub qik-hit-or-miss-settled-target : SettlesBytes 4 qik-hit-or-miss-kinds.ps
     qik-hit-or-miss-kinds.r qik-hit-or-miss.Learnt (λ κs e. e .1 .1 .1 .1 .1 .0 .now)
 qik-hit-or-miss-settled-target κs a x y s t p q = settled (p .1) (q .1)
-
-pub qik-check-chain-settled : Settles 2 qik-check-chain-kinds.ps
-    qik-check-chain-kinds.r qik-check-chain.Learnt
-qik-check-chain-settled κs a x y s t p q = settled p q
-
-pub qik-ech-read-settled : Settles 2 qik-ech-read-kinds.ps qik-ech-read-kinds.r qik-ech-read.Learnt
-qik-ech-read-settled κs a x y s t p q = settled (p .0) (q .0)
-
-pub qik-ech-read-settled-target : SettlesBytes 2 qik-ech-read-kinds.ps
-    qik-ech-read-kinds.r qik-ech-read.Learnt (λ κs e. e .1 .0 .now)
-qik-ech-read-settled-target κs a x y s t p q = settled (p .1) (q .1)
-
-pub qik-ech-write-settled : Settles 2 qik-ech-write-kinds.ps qik-ech-write-kinds.r qik-ech-write.Learnt
-qik-ech-write-settled κs a x y s t p q = settled (p .0) (q .0)
-
-pub qik-ech-write-settled-target : SettlesBytes 2 qik-ech-write-kinds.ps
-    qik-ech-write-kinds.r qik-ech-write.Learnt (λ κs e. e .1 .1 .1 .1 .0 .now)
-qik-ech-write-settled-target κs a x y s t p q = settled (p .1) (q .1)
-
-pub qik-chain-erode1-settled : Settles 5 qik-chain-erode1-kinds.ps
-    qik-chain-erode1-kinds.r qik-chain-erode1.Learnt
-qik-chain-erode1-settled κs a x y s t p q = settled (p .0) (q .0)
-
-pub qik-chain-erode1-settled-first : SettlesBytes 5 qik-chain-erode1-kinds.ps
-    qik-chain-erode1-kinds.r qik-chain-erode1.Learnt (λ κs e. e .1 .1 .1 .1 .1 .1 .0 .now)
-qik-chain-erode1-settled-first κs a x y s t p q = settled (p .1 .0) (q .1 .0)
-
-pub qik-chain-erode1-settled-second : SettlesBytes 5 qik-chain-erode1-kinds.ps
-    qik-chain-erode1-kinds.r qik-chain-erode1.Learnt (λ κs e. e .1 .1 .1 .1 .1 .1 .1 .0 .now)
-qik-chain-erode1-settled-second κs a x y s t p q = settled (p .1 .1) (q .1 .1)
-
-pub qik-chain-erode8-settled : Settles 5 qik-chain-erode8-kinds.ps
-    qik-chain-erode8-kinds.r qik-chain-erode8.Learnt
-qik-chain-erode8-settled κs a x y s t p q = settled (p .0) (q .0)
-
-pub qik-chain-erode8-settled-first : SettlesBytes 5 qik-chain-erode8-kinds.ps
-    qik-chain-erode8-kinds.r qik-chain-erode8.Learnt (λ κs e. e .1 .1 .1 .1 .1 .1 .0 .now)
-qik-chain-erode8-settled-first κs a x y s t p q = settled (p .1 .0) (q .1 .0)
-
-pub qik-chain-erode8-settled-second : SettlesBytes 5 qik-chain-erode8-kinds.ps
-    qik-chain-erode8-kinds.r qik-chain-erode8.Learnt (λ κs e. e .1 .1 .1 .1 .1 .1 .1 .0 .now)
-qik-chain-erode8-settled-second κs a x y s t p q = settled (p .1 .1) (q .1 .1)
-
-pub qik-chain-dilate1-settled : Settles 5 qik-chain-dilate1-kinds.ps
-    qik-chain-dilate1-kinds.r qik-chain-dilate1.Learnt
-qik-chain-dilate1-settled κs a x y s t p q = settled (p .0) (q .0)
-
-pub qik-chain-dilate1-settled-first : SettlesBytes 5 qik-chain-dilate1-kinds.ps
-    qik-chain-dilate1-kinds.r qik-chain-dilate1.Learnt (λ κs e. e .1 .1 .1 .1 .1 .1 .0 .now)
-qik-chain-dilate1-settled-first κs a x y s t p q = settled (p .1 .0) (q .1 .0)
-
-pub qik-chain-dilate1-settled-second : SettlesBytes 5 qik-chain-dilate1-kinds.ps
-    qik-chain-dilate1-kinds.r qik-chain-dilate1.Learnt (λ κs e. e .1 .1 .1 .1 .1 .1 .1 .0 .now)
-qik-chain-dilate1-settled-second κs a x y s t p q = settled (p .1 .1) (q .1 .1)
-
-pub qik-chain-dilate8-settled : Settles 5 qik-chain-dilate8-kinds.ps
-    qik-chain-dilate8-kinds.r qik-chain-dilate8.Learnt
-qik-chain-dilate8-settled κs a x y s t p q = settled (p .0) (q .0)
-
-pub qik-chain-dilate8-settled-first : SettlesBytes 5 qik-chain-dilate8-kinds.ps
-    qik-chain-dilate8-kinds.r qik-chain-dilate8.Learnt (λ κs e. e .1 .1 .1 .1 .1 .1 .0 .now)
-qik-chain-dilate8-settled-first κs a x y s t p q = settled (p .1 .0) (q .1 .0)
-
-pub qik-chain-dilate8-settled-second : SettlesBytes 5 qik-chain-dilate8-kinds.ps
-    qik-chain-dilate8-kinds.r qik-chain-dilate8.Learnt (λ κs e. e .1 .1 .1 .1 .1 .1 .1 .0 .now)
-qik-chain-dilate8-settled-second κs a x y s t p q = settled (p .1 .1) (q .1 .1)
 
 pub qik-weighted-erode-settled : Settles 3 qik-weighted-erode-kinds.ps
     qik-weighted-erode-kinds.r qik-weighted-erode.Learnt

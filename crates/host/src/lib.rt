@@ -1,11 +1,10 @@
-// What a host program in C calls: numbers and byte slices in, one number back.
+// What a host program in C calls of the operations on a picture: numbers and byte slices in, one number back.
 // Nothing is asked of the host but that the buffers it lends do not overlap.
 // The promises are those of the library's own functions, with the answer packed.
 use picture::Depth;
 ghost use mathlib.Core.Path.{_≡_};
 ghost use Prim.Native.Nat.{min};
 ghost use lib.ListN.{length};
-ghost use Rattle.answer.specs.Lent.{unlessRefused};
 ghost use Rattle.answer.specs.Packed.{packed};
 ghost use Rattle.picture.specs.Frame.{top};
 ghost use Rattle.morphology.specs.Operations as defined;
@@ -13,10 +12,6 @@ ghost use Rattle.morphology.specs.Weighted.{erodeWeighted, dilateWeighted, open
 ghost use Rattle.flat.specs.Flat.{flatAnswer, flatLeft};
 ghost use Rattle.hit.specs.Hit.{hitAnswer, hitLeft};
 ghost use Rattle.weighted.specs.Weighted.{weightedAnswer, weightedLeft};
-ghost use Rattle.chain.specs.Reading.{checked};
-ghost use Rattle.chained.specs.Run.{runAnswer, eroded, dilated, firstAfter, secondAfter};
-ghost use Rattle.ech.specs.ReadWrite.{readTarget, writeAnswer, writeTarget};
-ghost use Rattle.host.specs.Read.{readNumber};
 
 #[no_mangle]
 pub extern "C" fn qik_erode1(
@@ -273,148 +268,4 @@ pub extern "C" fn qik_weighted_close(
         (min (length (now (target .entry))) (length (now (scratch .entry)))) (now (scratch .entry)) ⌝ }
 {
     answer::pack(weighted::close(w as usize, h as usize, source, element, target, scratch))
-}
-
-#[no_mangle]
-pub extern "C" fn qik_check_chain(element: &[u8], links: u64, chain: &[u8]) -> u32
-    ensures { λ r. ⌜ r ≡ packed (checked (now (element .entry)) links (now (chain .entry))) ⌝ }
-{
-    answer::pack(chain::check_chain(element, links as usize, chain))
-}
-
-#[no_mangle]
-pub extern "C" fn qik_chain_erode1(
-    w: u64,
-    h: u64,
-    source: &[u8],
-    element: &[u8],
-    links: u64,
-    chain: &[u8],
-    first: &mut [u8],
-    second: &mut [u8],
-) -> u32
-    ensures number { λ r. ⌜ r ≡ packed (runAnswer Depth.OneBit w h (now (source .entry))
-        (now (element .entry)) links (now (chain .entry))
-        (min (length (now (first .entry))) (length (now (second .entry))))) ⌝ }
-    ensures first { λ _. ⌜ now (first .exit)
-        ≡ unlessRefused (runAnswer Depth.OneBit w h (now (source .entry)) (now (element .entry))
-        links (now (chain .entry)) (min (length (now (first .entry))) (length (now (second .entry)))))
-        (now (first .entry)) (firstAfter Depth.OneBit w h
-        (eroded Depth.OneBit w h (now (source .entry)) (now (chain .entry))) links (now (first .entry))) ⌝ }
-    ensures second { λ _. ⌜ now (second .exit)
-        ≡ unlessRefused (runAnswer Depth.OneBit w h (now (source .entry)) (now (element .entry))
-        links (now (chain .entry)) (min (length (now (first .entry))) (length (now (second .entry)))))
-        (now (second .entry)) (secondAfter Depth.OneBit w h
-        (eroded Depth.OneBit w h (now (source .entry)) (now (chain .entry))) links (now (second .entry))) ⌝ }
-{
-    let one = Depth::OneBit;
-    packed::chain_erode(one, w, h, source, element, links, chain, first, second)
-}
-
-#[no_mangle]
-pub extern "C" fn qik_chain_erode8(
-    w: u64,
-    h: u64,
-    source: &[u8],
-    element: &[u8],
-    links: u64,
-    chain: &[u8],
-    first: &mut [u8],
-    second: &mut [u8],
-) -> u32
-    ensures number { λ r. ⌜ r ≡ packed (runAnswer Depth.EightBit w h (now (source .entry))
-        (now (element .entry)) links (now (chain .entry))
-        (min (length (now (first .entry))) (length (now (second .entry))))) ⌝ }
-    ensures first { λ _. ⌜ now (first .exit)
-        ≡ unlessRefused (runAnswer Depth.EightBit w h (now (source .entry)) (now (element .entry))
-        links (now (chain .entry)) (min (length (now (first .entry))) (length (now (second .entry)))))
-        (now (first .entry)) (firstAfter Depth.EightBit w h
-        (eroded Depth.EightBit w h (now (source .entry)) (now (chain .entry))) links (now (first .entry))) ⌝ }
-    ensures second { λ _. ⌜ now (second .exit)
-        ≡ unlessRefused (runAnswer Depth.EightBit w h (now (source .entry)) (now (element .entry))
-        links (now (chain .entry)) (min (length (now (first .entry))) (length (now (second .entry)))))
-        (now (second .entry))
-        (secondAfter Depth.EightBit w h (eroded Depth.EightBit w h (now (source .entry)) (now (chain .entry)))
-        links (now (second .entry))) ⌝ }
-{
-    let eight = Depth::EightBit;
-    packed::chain_erode(eight, w, h, source, element, links, chain, first, second)
-}
-
-#[no_mangle]
-pub extern "C" fn qik_chain_dilate1(
-    w: u64,
-    h: u64,
-    source: &[u8],
-    element: &[u8],
-    links: u64,
-    chain: &[u8],
-    first: &mut [u8],
-    second: &mut [u8],
-) -> u32
-    ensures number { λ r. ⌜ r ≡ packed (runAnswer Depth.OneBit w h (now (source .entry))
-        (now (element .entry)) links (now (chain .entry))
-        (min (length (now (first .entry))) (length (now (second .entry))))) ⌝ }
-    ensures first { λ _. ⌜ now (first .exit)
-        ≡ unlessRefused (runAnswer Depth.OneBit w h (now (source .entry)) (now (element .entry))
-        links (now (chain .entry)) (min (length (now (first .entry))) (length (now (second .entry)))))
-        (now (first .entry)) (firstAfter Depth.OneBit w h
-        (dilated Depth.OneBit w h (now (source .entry)) (now (chain .entry))) links (now (first .entry))) ⌝ }
-    ensures second { λ _. ⌜ now (second .exit)
-        ≡ unlessRefused (runAnswer Depth.OneBit w h (now (source .entry)) (now (element .entry))
-        links (now (chain .entry)) (min (length (now (first .entry))) (length (now (second .entry)))))
-        (now (second .entry)) (secondAfter Depth.OneBit w h
-        (dilated Depth.OneBit w h (now (source .entry)) (now (chain .entry))) links (now (second .entry))) ⌝ }
-{
-    let one = Depth::OneBit;
-    packed::chain_dilate(one, w, h, source, element, links, chain, first, second)
-}
-
-#[no_mangle]
-pub extern "C" fn qik_chain_dilate8(
-    w: u64,
-    h: u64,
-    source: &[u8],
-    element: &[u8],
-    links: u64,
-    chain: &[u8],
-    first: &mut [u8],
-    second: &mut [u8],
-) -> u32
-    ensures number { λ r. ⌜ r ≡ packed (runAnswer Depth.EightBit w h (now (source .entry))
-        (now (element .entry)) links (now (chain .entry))
-        (min (length (now (first .entry))) (length (now (second .entry))))) ⌝ }
-    ensures first { λ _. ⌜ now (first .exit)
-        ≡ unlessRefused (runAnswer Depth.EightBit w h (now (source .entry)) (now (element .entry))
-        links (now (chain .entry)) (min (length (now (first .entry))) (length (now (second .entry)))))
-        (now (first .entry))
-        (firstAfter Depth.EightBit w h (dilated Depth.EightBit w h (now (source .entry)) (now (chain .entry)))
-        links (now (first .entry))) ⌝ }
-    ensures second { λ _. ⌜ now (second .exit)
-        ≡ unlessRefused (runAnswer Depth.EightBit w h (now (source .entry)) (now (element .entry))
-        links (now (chain .entry)) (min (length (now (first .entry))) (length (now (second .entry)))))
-        (now (second .entry)) (secondAfter Depth.EightBit w h (dilated Depth.EightBit w
-        h (now (source .entry)) (now (chain .entry))) links (now (second .entry))) ⌝ }
-{
-    let eight = Depth::EightBit;
-    packed::chain_dilate(eight, w, h, source, element, links, chain, first, second)
-}
-
-#[no_mangle]
-pub extern "C" fn qik_ech_read(file: &[u8], target: &mut [u8]) -> u64
-    ensures number { λ r. ⌜ r ≡ readNumber (now (file .entry)) (now (target .entry)) ⌝ }
-    ensures bytes { λ _. ⌜ now (target .exit) ≡ readTarget (now (file .entry)) (now (target .entry)) ⌝ }
-{
-    let got = ech::read_ech(file, target);
-    let said = got.answer;
-    packed::pack_read(answer::pack(said), got.kind, got.w, got.h)
-}
-
-#[no_mangle]
-pub extern "C" fn qik_ech_write(kind: u64, w: u64, h: u64, source: &[u8], target: &mut [u8]) -> u32
-    ensures number { λ r. ⌜ r ≡ packed (writeAnswer kind w h (now (source .entry)) (now (target .entry))) ⌝ }
-    ensures bytes { λ _. ⌜ now (target .exit)
-        ≡ writeTarget kind w h (now (source .entry)) (now (target .entry)) ⌝ }
-{
-    answer::pack(ech::write_ech(kind as usize, w as usize, h as usize, source, target))
 }

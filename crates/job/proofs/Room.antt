@@ -51,9 +51,13 @@ lines-short OneBit w h l =
     omega (arith, mul-le-mul {n₁ = h} {m₁ = w} {n₂ = h} {m₂ = 8 * ((w + 7) / 8)} (omega arith) (omega arith))
 lines-short EightBit w h l = omega arith
 
+-- room for the text of any job
+abbrev pub textRoom : ℕ
+textRoom = 262400
+
 module _ (job p r m t : List ℕ) where
   pub never-room : mostJob ≤ length p → mostJob ≤ length r → mostJob ≤ length m
-      → 262400 ≤ length t → jobAnswer job p r m t ≡ plain 8 → ⊥
+      → textRoom ≤ length t → jobAnswer job p r m t ≡ plain 8 → ⊥
   unfolding jobAnswer
   never-room lp lr lm lt e =
       let e1 = other (ltb (length job) 2) 10 _ (λ q. omega arith) e in

@@ -84,12 +84,11 @@ module _ (E : Shape) (Bs : List Shape) (C : Chained E Bs) where
         (accepted-is-same 1 (lit≤ tt) .1 (s OneBit)),
   )
 
-  -- and it splits the chain at the first offset at which a lone echo is dilated differently, at either depth
-  pub splits : (depth : Depth) (x y : ℕ)
-      → (checkOf E Bs ≡ Split x y) ↔ First (Differs (top depth) E Bs) (value (record { x = x; y = y }))
-  splits depth x y = (
-    λ e. first-fault-is-first-difference (top depth)
-        (some-top depth) _ .0 (subst (Says E Bs) e (check-says E Bs C)),
+  -- and it splits the chain at the first offset at which a lone echo, of any strength, is dilated differently
+  pub splits : (strength : ℕ) → 1 ≤ strength → (x y : ℕ)
+      → (checkOf E Bs ≡ Split x y) ↔ First (Differs strength E Bs) (value (record { x = x; y = y }))
+  splits strength some x y = (
+    λ e. first-fault-is-first-difference strength some _ .0 (subst (Says E Bs) e (check-says E Bs C)),
     λ s. says-once E Bs C (checkOf E Bs) (Split x y) (check-says E Bs C)
-        (first-fault-is-first-difference (top depth) (some-top depth) _ .1 s),
+        (first-fault-is-first-difference strength some _ .1 s),
   )

@@ -1,12 +1,11 @@
 -- The worked chains P12 and P14 for pictures: what their verdicts mean, so that the hypotheses are met.
-use Prim.Native.Nat.{_-_}
+use Prim.Native.Nat.{ℕ, _-_, _≤_}
 use mathlib.Core.Path.{refl}
 use mathlib.Core.List.{[], _∷_}
 use lib.Dec.{lit≤}
 use lib.IntN.{pos, negsuc}
 use Rattle.answer.specs.Answer.{centre}
 use Rattle.picture.specs.declared.Depth.{Depth}
-use Rattle.picture.specs.declared.Depth.the-variants.{OneBit}
 use Rattle.picture.specs.Frame.{top}
 use Rattle.morphology.specs.Chain.{First}
 use Rattle.morphology.specs.Check.{stepTest, movedBy, canMove, walkTest, betweenTest, hasTest, sumTest}
@@ -51,11 +50,12 @@ p12 =
       few-links = lit≤ tt;
     }) .0 refl
 
--- dx -2..3 by -2 and 0..5 differs on a lone echo, first at dx -1
-p14 : First (Differs 1 (span 2 3) (last-but-one ∷ span 0 5 ∷ [])) (record { dx = negsuc 0; dy = pos 0 })
+-- dx -2..3 by -2 and 0..5 differs on a lone echo of any strength, first at dx -1
+p14 : (strength : ℕ) → 1 ≤ strength → First (Differs strength (span 2 3) (last-but-one ∷ span 0 5 ∷ []))
+    (record { dx = negsuc 0; dy = pos 0 })
 unfolding any stepTest movedBy canMove walkTest betweenTest hasTest
     sumTest pathTest faultTest scanRow scan total scanReach checkOf
-p14 =
+p14 strength some =
     splits (span 2 3) (last-but-one ∷ span 0 5 ∷ [])
     (record {
       element =
@@ -84,4 +84,4 @@ p14 =
       );
       some-links = lit≤ tt;
       few-links = lit≤ tt;
-    }) OneBit (centre - 1) centre .0 refl
+    }) strength some (centre - 1) centre .0 refl

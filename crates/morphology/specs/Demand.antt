@@ -27,13 +27,13 @@ pub record Same (top : ℕ) (E : Shape) (Bs : List Shape) : Type 0 where
   pub eroded : (F : Frame) → Limits F → (A : Picture) → Bounded top F A → (p : Place) → In F p
       → erodeAll top F Bs A (p .x) (p .y) ≡ erode top F E A (p .x) (p .y)
 
--- the picture with the value top at the point a, and 0 elsewhere
+-- the picture of an echo of this strength at the point a, and 0 elsewhere
 unfoldable pub lone : ℕ → Place → Picture
-lone top a x y = cond (eqb x (a .x) && eqb y (a .y)) top 0
+lone strength a x y = cond (eqb x (a .x) && eqb y (a .y)) strength 0
 
--- in some frame some lone echo is dilated differently,
+-- in some frame some lone echo of this strength is dilated differently,
 -- at the echo's point moved by e, by the element and by the chain
-pub record Differs (top : ℕ) (E : Shape) (Bs : List Shape) (e : Offset) : Type 0 where
+pub record Differs (strength : ℕ) (E : Shape) (Bs : List Shape) (e : Offset) : Type 0 where
   pub frame : Frame
   pub limits : Limits frame
   pub echo : Place
@@ -41,5 +41,5 @@ pub record Differs (top : ℕ) (E : Shape) (Bs : List Shape) (e : Offset) : Type
   pub echo-in : In frame echo
   pub point-in : In frame point
   pub moved : Plus echo e point
-  pub differ : ¬ (dilateAll frame Bs (lone top echo) (point .x) (point .y)
-      ≡ dilate frame E (lone top echo) (point .x) (point .y))
+  pub differ : ¬ (dilateAll frame Bs (lone strength echo) (point .x) (point .y)
+      ≡ dilate frame E (lone strength echo) (point .x) (point .y))

@@ -1,6 +1,7 @@
 -- Any two outcomes that a contract allows of one call are the same:
 -- for each public function, of its contract itself, as the prover reads it.
-use Rattle.basics.proofs.Settled.{Settles, SettlesBytes, settled}
+use Rattle.basics.specs.Settles.{Settles, SettlesBytes}
+use Rattle.basics.proofs.Settled.{settled}
 use Rattle.packed.proofs.erode.Kinds as erode-kinds
 use Rattle.packed.proofs.erode.Reads as erode
 use Rattle.packed.proofs.dilate.Kinds as dilate-kinds
@@ -9,12 +10,6 @@ use Rattle.packed.proofs.open.Kinds as open-kinds
 use Rattle.packed.proofs.open.Reads as opened
 use Rattle.packed.proofs.close.Kinds as close-kinds
 use Rattle.packed.proofs.close.Reads as close
-use Rattle.packed.proofs.chain_erode.Kinds as chain-erode-kinds
-use Rattle.packed.proofs.chain_erode.Reads as chain-erode
-use Rattle.packed.proofs.chain_dilate.Kinds as chain-dilate-kinds
-use Rattle.packed.proofs.chain_dilate.Reads as chain-dilate
-use Rattle.packed.proofs.pack_read.Kinds as pack-read-kinds
-use Rattle.packed.proofs.pack_read.Reads as pack-read
 
 pub erode-settled : Settles 3 erode-kinds.ps erode-kinds.r erode.Learnt
 erode-settled κs a x y s t p q = settled (p .0) (q .0)
@@ -51,28 +46,3 @@ close-settled-target κs a x y s t p q = settled (p .1 .0) (q .1 .0)
 pub close-settled-scratch : SettlesBytes 4 close-kinds.ps
     close-kinds.r close.Learnt (λ κs e. e .1 .1 .1 .1 .1 .1 .0 .now)
 close-settled-scratch κs a x y s t p q = settled (p .1 .1) (q .1 .1)
-
-pub chain-erode-settled : Settles 5 chain-erode-kinds.ps chain-erode-kinds.r chain-erode.Learnt
-chain-erode-settled κs a x y s t p q = settled (p .0) (q .0)
-
-pub chain-erode-settled-first : SettlesBytes 5 chain-erode-kinds.ps
-    chain-erode-kinds.r chain-erode.Learnt (λ κs e. e .1 .1 .1 .1 .1 .1 .1 .0 .now)
-chain-erode-settled-first κs a x y s t p q = settled (p .1 .0) (q .1 .0)
-
-pub chain-erode-settled-second : SettlesBytes 5 chain-erode-kinds.ps
-    chain-erode-kinds.r chain-erode.Learnt (λ κs e. e .1 .1 .1 .1 .1 .1 .1 .1 .0 .now)
-chain-erode-settled-second κs a x y s t p q = settled (p .1 .1) (q .1 .1)
-
-pub chain-dilate-settled : Settles 5 chain-dilate-kinds.ps chain-dilate-kinds.r chain-dilate.Learnt
-chain-dilate-settled κs a x y s t p q = settled (p .0) (q .0)
-
-pub chain-dilate-settled-first : SettlesBytes 5 chain-dilate-kinds.ps
-    chain-dilate-kinds.r chain-dilate.Learnt (λ κs e. e .1 .1 .1 .1 .1 .1 .1 .0 .now)
-chain-dilate-settled-first κs a x y s t p q = settled (p .1 .0) (q .1 .0)
-
-pub chain-dilate-settled-second : SettlesBytes 5 chain-dilate-kinds.ps
-    chain-dilate-kinds.r chain-dilate.Learnt (λ κs e. e .1 .1 .1 .1 .1 .1 .1 .1 .0 .now)
-chain-dilate-settled-second κs a x y s t p q = settled (p .1 .1) (q .1 .1)
-
-pub pack-read-settled : Settles 0 pack-read-kinds.ps pack-read-kinds.r pack-read.Learnt
-pack-read-settled κs a x y s t p q = settled p q

@@ -1,6 +1,7 @@
 -- Any two outcomes that a contract allows of one call are the same: for each public function, of its contract
 -- itself, as the prover reads it.
-use Rattle.basics.proofs.Settled.{Settles, SettlesBytes, settled}
+use Rattle.basics.specs.Settles.{Settles, SettlesBytes}
+use Rattle.basics.proofs.Settled.{settled}
 use Rattle.picture.proofs.sized.Kinds as sized-kinds
 use Rattle.picture.proofs.sized.Reads as sized
 use Rattle.picture.proofs.row_bytes.Kinds as row-bytes-kinds

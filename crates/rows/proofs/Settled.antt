@@ -1,6 +1,7 @@
 -- Any two outcomes that a contract allows of one call are the same:
 -- for each public function, of its contract itself, as the prover reads it.
-use Rattle.basics.proofs.Settled.{Settles, SettlesBytes, settled}
+use Rattle.basics.specs.Settles.{Settles, SettlesBytes}
+use Rattle.basics.proofs.Settled.{settled}
 use Rattle.rows.proofs.is_growing.Kinds as is-growing-kinds
 use Rattle.rows.proofs.is_growing.Reads as is-growing
 use Rattle.rows.proofs.fold_row.Kinds as fold-row-kinds

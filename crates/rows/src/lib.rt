@@ -4,7 +4,7 @@ use picture::Bin;
 use picture::Ping;
 ghost use mathlib.Core.Path.{_≡_};
 ghost use mathlib.Core.Bool.{cond};
-ghost use Prim.Native.Nat.{_+_, _-_, _≤_, _<_, min};
+ghost use Prim.Native.Nat.{_+_, _-_, _*_, _≤_, _<_, min};
 ghost use lib.ListN.{length};
 ghost use Rattle.basics.specs.Lists.{firsts};
 ghost use Rattle.basics.specs.Zip.{zipIn};
@@ -161,10 +161,12 @@ fn fold_cell(
     }
 }
 
-// The height at a place; where there are none it is 0.
-fn height_at(heights: &[u8], i: usize) -> u8
-    ensures { λ r. ⌜ r ≡ columnsOf (now (heights .entry)) i ⌝ }
+// The height of a column, its row's heights standing from the place `at` on; where there are none it is 0.
+fn height_at(heights: &[u8], at: usize, column: Ping) -> u8
+    requires { ⌜ at ≤ mostCells * mostCells ⌝ }
+    ensures { λ r. ⌜ r ≡ columnsOf (now (heights .entry)) (at + column .0) ⌝ }
 {
+    let i = at + column.0 as usize;
     if i < heights.len() { heights[i] } else { 0 }
 }
 
@@ -188,8 +190,9 @@ pub fn fold_row(
 {
     let mut c = 0;
     while c < wide {
-        let g = height_at(heights, at + c);
-        fold_cell(grows, t, s, w, word, Ping(c as u16), origin, g);
+        let column = Ping(c as u16);
+        let g = height_at(heights, at, column);
+        fold_cell(grows, t, s, w, word, column, origin, g);
         c += 1;
     }
 }

@@ -1,6 +1,7 @@
 -- Any two outcomes that a contract allows of one call are the same:
 -- for each public function, of its contract itself, as the prover reads it.
-use Rattle.basics.proofs.Settled.{Settles, SettlesBytes, settled}
+use Rattle.basics.specs.Settles.{Settles, SettlesBytes}
+use Rattle.basics.proofs.Settled.{settled}
 use Rattle.text.proofs.most_len.Kinds as most-len-kinds
 use Rattle.text.proofs.most_len.Reads as most-len
 use Rattle.text.proofs.put_text.Kinds as put-text-kinds

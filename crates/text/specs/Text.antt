@@ -12,7 +12,7 @@ use Rattle.picture.specs.Bytes.{Picture}
 
 -- the letters that stand alone
 abbrev pub space : ℕ
-space = 0x20
+space = 32
 
 abbrev pub lineFeed : ℕ
 lineFeed = 10

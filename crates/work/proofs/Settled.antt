@@ -1,7 +1,8 @@
 -- Any two outcomes that a contract allows of one call are the same: for each public function, of its contract
 -- itself, as the prover reads it.
 use Rattle.answer.proofs.OneToOne.{same-answer}
-use Rattle.basics.proofs.Settled.{Settles, SettlesBytes, settled}
+use Rattle.basics.specs.Settles.{Settles, SettlesBytes}
+use Rattle.basics.proofs.Settled.{settled}
 use Rattle.work.proofs.refused.Kinds as refused-kinds
 use Rattle.work.proofs.refused.Reads as refused
 use Rattle.work.proofs.carry_out.Kinds as carry-out-kinds

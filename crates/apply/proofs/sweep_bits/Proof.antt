@@ -45,7 +45,10 @@ make-row-requires : tie.Need-make-row-requires Inv-loop μ-loop
 make-row-requires c κs =
     let i = c .before in (
       entry i .pre .0,
-      (part-length (i .before .loop .t) _ _ (room i) ∙ i .before .before .row-bytes .ensures, search needs),
+      (
+        part-length (i .before .loop .t) _ _ (room i) ∙ i .before .before .row-bytes .ensures,
+        i .loop-test .taken,
+      ),
     )
 
 loop-again : tie.Need-loop-again Inv-loop μ-loop

@@ -24,7 +24,7 @@ abbrev μ-loop : tie.MeasureT-loop
 μ-loop over s w y row₀ x₀ row x = w - x
 
 loop-holds : tie.Need-loop-holds Inv-loop μ-loop
-loop-holds c = (search needs, fill-none _ mostPings 0)
+loop-holds c = (omega arith, fill-none _ mostPings 0)
 
 faced-value-requires : tie.Need-faced-value-requires Inv-loop μ-loop
 faced-value-requires c κs = let a = c .before .before .before .before .args in

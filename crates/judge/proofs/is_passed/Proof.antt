@@ -12,7 +12,12 @@ returns c =
     c .padding-clear .ensures
     ∙ ap (λ p. passes p (a .depth) (a .s .now) (a .w) (a .h)) (sym (c .before .enum-told .given .1))
 
+returns-2 : tie.Need-returns-2
+returns-2 c =
+    let a = c .before .before .before .args in
+    ap (λ p. passes p (a .depth) (a .s .now) (a .w) (a .h)) (sym (c .enum-told2 .given .1))
+
 pub is-passed-spec : {M : Type 1} → statement M
 is-passed-spec =
     tie.close
-    (tie.spec (λ c. search needs) (λ c κs. search needs) (λ c. search needs) returns (λ c. search needs))
+    (tie.spec (λ c. search needs) (λ c κs. search needs) (λ c. search needs) returns returns-2)

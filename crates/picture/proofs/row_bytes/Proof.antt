@@ -9,7 +9,10 @@ use Rattle.picture.proofs.row_bytes.Tie as tie
 returns : tie.Need-returns
 returns c = ap (λ d. rowBytes d (c .before .before .args .w)) (sym (c .enum-told .given .1))
 
+returns-2 : tie.Need-returns-2
+returns-2 c = ap (λ d. rowBytes d (c .before .before .args .w)) (sym (c .enum-told2 .given .1))
+
 pub row-bytes-spec : {M : Type 1} → statement M
 row-bytes-spec =
     tie.close (tie.spec (λ c. search needs) (λ c. search needs)
-    (λ c. search needs) returns (λ c. search needs))
+    (λ c. search needs) returns returns-2)

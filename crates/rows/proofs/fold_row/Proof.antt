@@ -64,7 +64,6 @@ fold-row-spec =
     loop-holds
     (λ c. search needs)
     (λ c κs. search needs)
-    (λ c. search needs)
     (λ c κs. search needs)
     (λ c. search needs)
     (λ c. search needs)

@@ -1,0 +1,85 @@
+-- What C gets of a read is taken apart again into its number, the kind, W and H.
+use Prim.Native.Nat.{ℕ, _+_, _*_, _/_, _^_, _<_}
+use mathlib.Core.Path.{_≡_, ap, _∙_}
+use mathlib.Core.Bool.{true, false, cond}
+use mathlib.Core.List.{List, [], _∷_}
+use native.Mathlib.Omega.{arith}
+use borrow.Fn.Kinds.{Dens, resT, endedOf}
+use denote.Triple.Clauses.{AtExit}
+use contract.Lifetimes.{Lfts}
+use lib.Bits.{and-mask}
+use lib.Dec.{lit<}
+use lib.ListN.{length}
+use Rattle.answer.specs.Answer.{plain, isDone}
+use Rattle.answer.specs.Refuse.{Test, refuse}
+use Rattle.answer.specs.Packed.{packed}
+use Rattle.answer.proofs.Packed.{packed-plain}
+use Rattle.ech.specs.File.{kindOf, pingsOf, binsOf}
+use Rattle.ech.specs.ReadWrite.{fileTests, readAnswer}
+use Rattle.ech.proofs.RoundTrip.{accepted}
+use Rattle.hostfile.specs.Read.{readNumber}
+use Rattle.hostfile.specs.Apart.{readApart, readTold}
+use Rattle.hostfile.proofs.qik_ech_read.Kinds as kinds
+use Rattle.hostfile.proofs.qik_ech_read.Reads as reads
+use Rattle.hostfile.proofs.ReadPacked.{Packable, packable-if}
+
+-- ---- a refusal's number is a byte, and has no offset
+abbrev Few : List Test → Type 0
+Few [] = Unit {0}
+Few (t ∷ ts) = (t .1 < 2 ^ 8) × Few ts
+
+number-few : (ts : List Test) → Few ts → refuse ts (plain 0) .number < 2 ^ 8
+unfolding plain
+number-few [] few = lit< tt
+number-few ((true, n) ∷ ts) few = few .0
+number-few ((false, n) ∷ ts) few = number-few ts (few .1)
+
+number-packed : (ts : List Test) → packed (refuse ts (plain 0)) ≡ refuse ts (plain 0) .number
+unfolding plain
+number-packed [] = packed-plain 0
+number-packed ((true, n) ∷ ts) = packed-plain n
+number-packed ((false, n) ∷ ts) = number-packed ts
+
+-- ---- two bytes and two pairs of bytes side by side
+told-apart : (n kind w h : ℕ) → n < 2 ^ 8 → Packable kind w h
+    → readApart (n + kind * 2 ^ 8 + w * 2 ^ 16 + h * 4294967296)
+    ≡ record { number = n; kind = kind; w = w; h = h }
+unfolding readApart
+told-apart n kind w h l p = λ i. record {
+  number = number i;
+  kind = kind-is i;
+  w = pings i;
+  h = bins i;
+}
+  where
+    sum : ℕ
+    sum = n + kind * 2 ^ 8 + w * 2 ^ 16 + h * 4294967296
+
+    number : readApart sum .number ≡ n
+    number = and-mask sum 8 ∙ omega (arith, l, p .0, p .1 .0, p .1 .1)
+
+    kind-is : readApart sum .kind ≡ kind
+    kind-is = and-mask (sum / 2 ^ 8) 8 ∙ omega (arith, l, p .0, p .1 .0, p .1 .1)
+
+    pings : readApart sum .w ≡ w
+    pings = and-mask (sum / 2 ^ 16) 16 ∙ omega (arith, l, p .0, p .1 .0, p .1 .1)
+
+    bins : readApart sum .h ≡ h
+    bins = and-mask (sum / 4294967296) 16 ∙ omega (arith, l, p .0, p .1 .0, p .1 .1)
+
+pub read-apart : (f t : List ℕ) → readApart (readNumber f t) ≡ readTold f t
+unfolding readNumber readTold readAnswer
+read-apart f t =
+    let ts = fileTests f (length t) in
+    let done = isDone (readAnswer f (length t)) in
+    ap (λ n. readApart (n + cond done (kindOf f) 0 * 2 ^ 8 + cond done (pingsOf f) 0 * 2 ^ 16
+    + cond done (binsOf f) 0 * 4294967296)) (number-packed ts)
+    ∙ told-apart (refuse ts (plain 0) .number) _ _ _
+    (number-few ts (lit< tt, (lit< tt, (lit< tt, (lit< tt, (lit< tt, tt))))))
+    (packable-if done f (accepted f (length t)))
+
+-- so of every number that the contract of `qik_ech_read` allows, as the prover reads it
+pub qik-ech-read-apart : (κs : Lfts 2) (a : Dens κs kinds.ps) (r : resT kinds.r κs .Denot)
+    (e : AtExit (endedOf 2 kinds.ps kinds.r) κs) → reads.Learnt κs a r e
+    → readApart r ≡ readTold (a .0 .now) (a .1 .0 .now)
+qik-ech-read-apart κs a r e p = ap readApart (p .0) ∙ read-apart (a .0 .now) (a .1 .0 .now)

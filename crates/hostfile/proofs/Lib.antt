@@ -1,0 +1,3 @@
+pub mod ReadPacked
+pub mod Apart
+pub mod Settled
