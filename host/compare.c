@@ -34,7 +34,7 @@ static int chance(int percent) { return below(100) < percent; }
 
 enum { SOURCE, ELEMENT, OTHER, TARGET, SCRATCH, BUFFERS };
 enum { LIBRARY, INDEPENDENT };
-enum { AROUND = 16, MOST = 262144 + 64 };
+enum { AROUND = 16, MOST = 262144 + 1200 };
 
 static const char *const buffer_name[BUFFERS] = {"source", "element", "miss or chain", "target", "scratch or second"};
 static uint8_t memory[2][BUFFERS][MOST + 2 * AROUND];
@@ -60,7 +60,7 @@ typedef uint32_t middle_call(uint64_t, uint64_t, const uint8_t *, size_t, const 
 typedef uint32_t chain_call(uint64_t, uint64_t, const uint8_t *, size_t, const uint8_t *, size_t, uint64_t, const uint8_t *, size_t, uint8_t *, size_t,
                             uint8_t *, size_t);
 
-enum kind { FLAT, WEIGHTED, HIT, CHECK, CHAINED, READ, WRITE };
+enum kind { FLAT, WEIGHTED, HIT, CHECK, CHAINED, READ, WRITE, PNM_READ, PNM_WRITE };
 
 static const struct function {
     const char *name;
@@ -70,7 +70,7 @@ static const struct function {
     plain_call *plain;
     middle_call *middle;
     chain_call *chain;
-    const char *numbers; /* those that it can give */
+    const char *numbers; /* those that it can give: digits, and ; for 11 */
 } functions[] = {
     {"erode1", FLAT, 1, 'e', qik_erode1, 0, 0, "012348"},
     {"dilate1", FLAT, 1, 'd', qik_dilate1, 0, 0, "012348"},
@@ -92,6 +92,10 @@ static const struct function {
     {"chain_dilate8", CHAINED, 8, 'd', 0, 0, qik_chain_dilate8, "0124678"},
     {"ech_read", READ, 0, 0, 0, 0, 0, "012389"},
     {"ech_write", WRITE, 0, 0, 0, 0, 0, "012389"},
+    {"pbm_read", PNM_READ, 1, 0, 0, 0, 0, "0128;"},
+    {"pgm_read", PNM_READ, 8, 0, 0, 0, 0, "0128;"},
+    {"pbm_write", PNM_WRITE, 1, 0, 0, 0, 0, "01238"},
+    {"pgm_write", PNM_WRITE, 8, 0, 0, 0, 0, "0128"},
 };
 
 enum { FUNCTIONS = sizeof functions / sizeof *functions };
@@ -110,7 +114,9 @@ static uint64_t library_answer(const struct function *f) {
     case CHECK: return qik_check_chain(e.at, e.len, links, o.at, o.len);
     case CHAINED: return f->chain(w, h, s.at, s.len, e.at, e.len, links, o.at, o.len, t.at, t.len, m.at, m.len);
     case READ: return qik_ech_read(s.at, s.len, t.at, t.len);
-    default: return qik_ech_write(kind, w, h, s.at, s.len, t.at, t.len);
+    case WRITE: return qik_ech_write(kind, w, h, s.at, s.len, t.at, t.len);
+    case PNM_READ: return (f->depth == 1 ? qik_pbm_read : qik_pgm_read)(s.at, s.len, t.at, t.len);
+    default: return (f->depth == 1 ? qik_pbm_write : qik_pgm_write)(w, h, s.at, s.len, t.at, t.len);
     }
 }
 
@@ -127,9 +133,11 @@ static uint64_t independent_answer(const struct function *f) {
     case CHECK: return packed(own_check_chain(e, links, o));
     case CHAINED: return packed(own_chained(f->depth, f->way, w, h, s, e, links, o, t, m));
     case READ:
-        r = own_ech_read(s, t);
+    case PNM_READ:
+        r = f->kind == READ ? own_ech_read(s, t) : own_pnm_read(f->depth, s, t);
         return (uint64_t)r.number + 256u * (uint64_t)r.kind + 65536u * (uint64_t)r.w + 4294967296u * (uint64_t)r.h;
-    default: return (uint64_t)own_ech_write(kind, w, h, s, t);
+    case WRITE: return (uint64_t)own_ech_write(kind, w, h, s, t);
+    default: return (uint64_t)own_pnm_write(f->depth, w, h, s, t);
     }
 }
 
@@ -369,6 +377,54 @@ static void some_file(void) {
     if (chance(3)) bytes_of(SOURCE)[(size_t)below(10)] = (uint8_t)below(256);
 }
 
+/* white space, with comments in it and round it, or none; gives how many bytes it put at t */
+static size_t some_white(char *t, int fancy) {
+    static const char whites[] = " \n\t\r\v\f";
+    size_t n = 0;
+    int times = fancy ? from_to(1, 3) : 1;
+    for (int i = 0; i < times; i++) {
+        if (fancy && chance(15)) n += (size_t)sprintf(t + n, "#%s%c", chance(50) ? " 12 # P4" : "", chance(70) ? '\n' : '\r');
+        t[n++] = fancy ? whites[below(6)] : i || chance(50) ? '\n' : ' ';
+        if (fancy && chance(15)) n += (size_t)sprintf(t + n, "#a comment%c", chance(70) ? '\n' : '\r');
+    }
+    return n;
+}
+
+static size_t some_number(char *t, uint64_t v, int fancy) {
+    char digits[64];
+    int n = sprintf(digits, "%s%llu", fancy && chance(20) ? "000" : "", (unsigned long long)v), at = 0;
+    for (int i = 0; i < n; i++) {
+        t[at++] = digits[i];
+        if (fancy && chance(5)) at += sprintf(t + at, "#7\n");
+    }
+    return (size_t)at;
+}
+
+/* a PBM or PGM file, with a header of many forms, some of them broken */
+static void some_pnm(int depth) {
+    static char head[1024];
+    int fancy = chance(60);
+    some_frame();
+    size_t n = (size_t)sprintf(head, depth == 1 ? "P4" : "P5");
+    if (chance(2)) head[1] = (char)('1' + below(7));
+    n += some_white(head + n, fancy), n += some_number(head + n, w, fancy);
+    n += some_white(head + n, fancy), n += some_number(head + n, h, fancy);
+    if (depth == 8) n += some_white(head + n, fancy), n += some_number(head + n, chance(95) ? 255 : (uint64_t)below(70000), fancy);
+    if (fancy && chance(10)) n += (size_t)sprintf(head + n, "# the last\n");
+    head[n++] = fancy ? " \n\t\r\v\f"[below(6)] : '\n';
+    if (chance(6)) head[below((int)n)] = (char)(chance(50) ? below(256) : " 0#\n-+"[below(6)]);
+    if (chance(3)) { /* a byte less */
+        int at = below((int)n);
+        memmove(head + at, head + at + 1, --n - (size_t)at);
+    }
+    size_t len = some_picture(SOURCE, n, depth);
+    memcpy(bytes_of(SOURCE), head, n);
+    if (depth == 1 && is_sized() && w % 8 && chance(50)) /* the padding is free */
+        for (size_t y = 1; y * row_len(1, (size_t)w) <= len; y++) bytes_of(SOURCE)[n + y * row_len(1, (size_t)w) - 1] |= (uint8_t)below(1 << (8 - w % 8));
+    if (chance(2)) length[SOURCE] = (size_t)below((int)n + 1);
+    some_room(TARGET, is_sized() ? needed(depth) : len);
+}
+
 static void some_call(const struct function *f) {
     for (int b = 0; b < BUFFERS; b++) fresh(b, 0);
     w = h = links = kind = 0;
@@ -380,7 +436,18 @@ static void some_call(const struct function *f) {
         some_chain();
         return;
     }
+    if (f->kind == PNM_READ) {
+        some_pnm(f->depth);
+        return;
+    }
     some_frame();
+    if (f->kind == PNM_WRITE) {
+        char number[32];
+        size_t head = (size_t)(4 + (f->depth == 1 ? 1 : 5) + sprintf(number, "%llu", (unsigned long long)w) + sprintf(number, "%llu", (unsigned long long)h));
+        some_picture(SOURCE, 0, f->depth);
+        some_room(TARGET, head + needed(f->depth));
+        return;
+    }
     if (f->kind == WRITE) {
         kind = chance(92) ? (uint64_t)from_to(1, 3) : chance(50) ? (uint64_t)below(8) : 4294967296u + (uint64_t)below(4);
         int depth = kind == 2 ? 8 : 1;
@@ -531,6 +598,91 @@ static void worked(void) {
     must("a file that is refused", qik_ech_read(many, sizeof many, LENT(t)) == 9);
 }
 
+/* request (i): a file's text and its raster, written by hand, and what its read answers; W and H where it is done */
+static void pnm(const char *name, int depth, const char *head, const char *raster, size_t raster_len, int number, unsigned pings, unsigned bins) {
+    uint8_t file[128], target[16], before[16];
+    size_t n = strlen(head);
+    memcpy(file, head, n), memcpy(file + n, raster, raster_len);
+    memset(target, 0x5a, sizeof target), memcpy(before, target, sizeof target);
+    uint64_t r = (depth == 1 ? qik_pbm_read : qik_pgm_read)(file, n + raster_len, target, sizeof target);
+    int good = qik_read_number(r) == (uint32_t)number;
+    if (number) good = good && r == (uint64_t)number && memcmp(target, before, sizeof target) == 0;
+    else good = good && qik_read_w(r) == pings && qik_read_h(r) == bins && qik_read_kind(r) == 0;
+    must(name, good);
+}
+
+static void netpbm(void) {
+    /* comments in every place; a comment's line end ends nothing */
+    pnm("a plain PBM", 1, "P4\n5 1\n", "\x68", 1, 0, 5, 1);
+    pnm("a comment after the magic", 1, "P4#c\n 5 1\n", "\x68", 1, 0, 5, 1);
+    pnm("a comment before W", 1, "P4\n# c\n5 1\n", "\x68", 1, 0, 5, 1);
+    pnm("a comment in W", 1, "P4\n1#c\r2 1\n", "\x68\x60", 2, 0, 12, 1);
+    pnm("a comment after W", 1, "P4\n5#c\n 1\n", "\x68", 1, 0, 5, 1);
+    pnm("a comment before H", 1, "P4\n5 #c # d\n1\n", "\x68", 1, 0, 5, 1);
+    pnm("a comment in H", 1, "P4\n5 1#c\n0\n", "0123456789", 10, 0, 5, 10);
+    pnm("a comment after H", 1, "P4\n5 1#c\n\n", "\x68", 1, 0, 5, 1);
+    pnm("a comment that touches W and H alone", 1, "P4\n5#c\n1\n", "\x68", 1, 11, 0, 0);
+    pnm("no white space but a comment after the magic", 1, "P4#c\n5 1\n", "\x68", 1, 11, 0, 0);
+    pnm("a comment that ends the header", 1, "P4\n5 1#c\n", "\x68", 1, 11, 0, 0);
+    pnm("a comment that does not end", 1, "P4\n5 1#c", "", 0, 11, 0, 0);
+    pnm("a comment in the maximum", 8, "P5\n1 1\n2#c\n55\n", "\x07", 1, 0, 1, 1);
+    pnm("a comment after the maximum", 8, "P5\n1 1\n255#c\n ", "\x07", 1, 0, 1, 1);
+    pnm("an empty comment", 8, "P5 1#\n 1 255\n", "\x07", 1, 0, 1, 1);
+    /* white space */
+    pnm("every white space", 8, "P5 \t\n\v\f\r1 \t1\v255\f", "\x07", 1, 0, 1, 1);
+    pnm("CR LF as the ending", 1, "P4\r\n5 1\r\n", "\x68", 1, 2, 0, 0);
+    pnm("CR as the ending", 1, "P4\r5 1\r", "\x68", 1, 0, 5, 1);
+    pnm("no white space after the magic", 1, "P45 1\n", "\x68", 1, 11, 0, 0);
+    pnm("white space before the magic", 1, " P4\n5 1\n", "\x68", 1, 11, 0, 0);
+    pnm("a NUL for white space", 1, "P4\n5 1", "\0\x68", 2, 11, 0, 0);
+    /* sizes */
+    pnm("P4 1 0 with its line feed", 1, "P4 1 0\n", "", 0, 1, 0, 0);
+    pnm("P4 1 0 without it", 1, "P4 1 0", "", 0, 11, 0, 0);
+    pnm("W of 20 digits", 1, "P4 18446744073709551617 1\n", "\x68", 1, 1, 0, 0);
+    pnm("H of 20 digits", 1, "P4 5 10000000000000000001\n", "\x68", 1, 1, 0, 0);
+    pnm("W of 20 digits with leading zeros", 1, "P4 00000000000000000005 1\n", "\x68", 1, 0, 5, 1);
+    pnm("a sign", 1, "P4 +5 1\n", "\x68", 1, 11, 0, 0);
+    pnm("a negative number", 1, "P4 5 -1\n", "\x68", 1, 11, 0, 0);
+    pnm("a letter", 1, "P4 5 1x\n", "\x68", 1, 11, 0, 0);
+    pnm("W missing", 1, "P4 \n", "\x68", 1, 11, 0, 0);
+    pnm("H missing", 1, "P4 5\n\n", "", 0, 11, 0, 0);
+    pnm("W 1,025", 1, "P4 1025 1\n", "\x68", 1, 1, 0, 0);
+    pnm("H 257", 1, "P4 1 257\n", "\x68", 1, 1, 0, 0);
+    /* maxima */
+    pnm("the maximum 255", 8, "P5 1 1 255\n", "\x07", 1, 0, 1, 1);
+    pnm("the maximum 0255", 8, "P5 1 1 0255\n", "\x07", 1, 0, 1, 1);
+    pnm("the maximum 254", 8, "P5 1 1 254\n", "\x07", 1, 11, 0, 0);
+    pnm("the maximum 65535", 8, "P5 1 1 65535\n", "\x07\x07", 2, 11, 0, 0);
+    pnm("the maximum 2 to the 64th and 255 more", 8, "P5 1 1 18446744073709551871\n", "\x07", 1, 11, 0, 0);
+    pnm("a maximum that is wrong comes before SIZE", 8, "P5 0 0 254\n", "", 0, 11, 0, 0);
+    pnm("no maximum", 8, "P5 1 1\n", "\x07", 1, 11, 0, 0);
+    pnm("a PBM has none", 1, "P4 1 1 255\n", "\x80", 1, 2, 0, 0);
+    /* the magic */
+    pnm("the other's magic", 1, "P5 1 1 255\n", "\x07", 1, 11, 0, 0);
+    pnm("and the other way", 8, "P4 1 1\n", "\x80", 1, 11, 0, 0);
+    pnm("a plain file", 1, "P1 1 1\n", "1", 1, 11, 0, 0);
+    pnm("nothing", 1, "", "", 0, 11, 0, 0);
+    pnm("P alone", 1, "P", "", 0, 11, 0, 0);
+    pnm("the magic alone", 1, "P4", "", 0, 11, 0, 0);
+    /* the raster is whatever follows */
+    pnm("a raster that begins with white space", 1, "P4 8 2\n", " \n", 2, 0, 8, 2);
+    pnm("a raster that begins with #", 1, "P4 8 2\n", "#\n", 2, 0, 8, 2);
+    pnm("a raster of digits", 8, "P5 3 1 255 ", "255", 3, 0, 3, 1);
+    pnm("a raster cut short", 8, "P5 3 1 255 ", "25", 2, 2, 0, 0);
+    pnm("a byte after the raster", 8, "P5 3 1 255 ", "2555", 4, 2, 0, 0);
+    pnm("a second picture", 1, "P4 8 1\n", "\x01P4 8 1\n\x02", 9, 2, 0, 0);
+    pnm("too little room", 8, "P5 17 1 255 ", "01234567890123456", 17, 8, 0, 0);
+
+    /* padding is read as 0, and 1 is an echo; what we write, letter by letter */
+    static const uint8_t ones[] = "P4\n5 2\n\x6f\xff", clean[] = {0x68, 0xf8}, grey[] = {0, 200, 255};
+    uint8_t t[16], file[32];
+    must("ones in the padding", qik_pbm_read(ones, 9, t, 2) == 5 * 65536u + 2 * (uint64_t)4294967296u && memcmp(t, clean, 2) == 0);
+    must("PBM written", qik_pbm_write(5, 2, clean, 2, LENT(file)) == 0 && memcmp(file, "P4\n5 2\n\x68\xf8", 9) == 0);
+    must("PBM of padding 1", qik_pbm_write(5, 2, ones + 7, 2, LENT(file)) == 3);
+    must("PGM written", qik_pgm_write(3, 1, LENT(grey), file, 14) == 0 && memcmp(file, "P5\n3 1\n255\n\0\xc8\xff", 14) == 0);
+    must("PGM without room", qik_pgm_write(3, 1, LENT(grey), file, 13) == 8);
+}
+
 /* the largest frame by the default element at both depths, and a chain of many paths: few, and slow */
 static void large(uint64_t seed) {
     static const uint8_t trailing[] = {31, 1, 30, 0, 255, 255, 255, 254}, seven[] = {7, 7, 3, 3, 254, 254, 254, 254, 254, 254, 254};
@@ -566,22 +718,23 @@ int main(int argc, char **argv) {
     long rounds = argc > 2 ? strtol(argv[2], 0, 10) : 1000, unmet = 0;
     printf("compare: seed %llu, %ld rounds of each of %d functions\n", (unsigned long long)seed, rounds, FUNCTIONS);
     worked();
+    netpbm();
     begin(seed, "large", 0);
     large(seed);
     printf("%-16s %ld checks, %ld wrong\n", "by hand", fixed, wrong);
     for (int i = 0; i < FUNCTIONS; i++) {
         const struct function *f = &functions[i];
-        long met[11] = {0}, before = differing;
+        long met[12] = {0}, before = differing;
         for (long round = 0; round < rounds; round++) {
             begin(seed, f->name, (uint64_t)round);
             some_call(f);
             met[compared(f, seed, round)]++;
         }
         printf("%-16s %ld calls, %ld differ; answers", f->name, rounds, differing - before);
-        for (int n = 0; n < 11; n++)
+        for (int n = 0; n < 12; n++)
             if (met[n]) printf(" %d: %ld", n, met[n]);
         for (const char *c = f->numbers; *c && rounds >= 500; c++)
-            if (!met[*c - '0']) unmet++, printf(" (%c was not met)", *c);
+            if (!met[*c - '0']) unmet++, printf(" (%d was not met)", *c - '0');
         putchar('\n');
     }
     printf("compare: %ld checks by hand, %ld wrong; %ld calls, %ld differ; %ld refusals not met\n", fixed, wrong, rounds * FUNCTIONS, differing, unmet);

@@ -1,6 +1,6 @@
 /* The library with a fault put in, to see that the comparison finds it: link with -Wl,--wrap=NAME for each function below. FAULT is one of document 01's
- * "errors a good engineer makes here": 1, dilating without turning the element; 2, starting the result as a copy of the source; 3, turning the padding over with the
- * rest of a row when complementing. */
+ * "errors a good engineer makes here", or one of request (i)'s: 1, dilating without turning the element; 2, starting the result as a copy of the source; 3, turning the padding over with the
+ * rest of a row when complementing; 4, keeping the padding of a PBM file. */
 #include "qiksavlut.h"
 
 #define CALL                                                                                                                                           \
@@ -12,6 +12,9 @@ uint32_t __real_qik_dilate8(CALL);
 uint32_t __wrap_qik_dilate8(CALL);
 uint64_t __real_qik_ech_read(const uint8_t *file, size_t file_len, uint8_t *target, size_t target_len);
 uint64_t __wrap_qik_ech_read(const uint8_t *file, size_t file_len, uint8_t *target, size_t target_len);
+
+uint64_t __real_qik_pbm_read(const uint8_t *file, size_t file_len, uint8_t *target, size_t target_len);
+uint64_t __wrap_qik_pbm_read(const uint8_t *file, size_t file_len, uint8_t *target, size_t target_len);
 
 uint32_t __wrap_qik_dilate1(CALL) {
     uint8_t about[256] = {0};
@@ -41,5 +44,12 @@ uint64_t __wrap_qik_ech_read(const uint8_t *file, size_t file_len, uint8_t *targ
     uint32_t w = qik_read_w(answer);
     for (uint32_t y = 1; FAULT == 3 && qik_read_kind(answer) == 3 && w % 8 != 0 && y <= qik_read_h(answer); y++)
         target[y * ((w + 7) / 8) - 1] |= (uint8_t)(255 >> w % 8);
+    return answer;
+}
+
+uint64_t __wrap_qik_pbm_read(const uint8_t *file, size_t file_len, uint8_t *target, size_t target_len) {
+    uint64_t answer = __real_qik_pbm_read(file, file_len, target, target_len);
+    uint32_t row = (qik_read_w(answer) + 7) / 8, len = row * qik_read_h(answer);
+    for (uint32_t i = 0; FAULT == 4 && i < len; i++) target[i] |= file[file_len - len + i];
     return answer;
 }

@@ -388,6 +388,75 @@ int own_ech_write(uint64_t kind, uint64_t w, uint64_t h, struct lent source, str
     return 0;
 }
 
+/* ---- Netpbm */
+
+/* the bytes past the magic that count, comments left out, and where each of them stood */
+struct counted {
+    const uint8_t *file;
+    size_t *place, n, next;
+};
+
+static struct counted counted_of(struct lent file) {
+    struct counted c = {file.at, malloc((file.len + 1) * sizeof(size_t)), 0, 0};
+    if (!c.place) abort();
+    for (size_t i = 2; i < file.len; i++) {
+        if (file.at[i] == '#') {
+            while (i < file.len && file.at[i] != '\n' && file.at[i] != '\r') i++;
+            continue;
+        }
+        c.place[c.n++] = i;
+    }
+    return c;
+}
+
+static int is_white(uint8_t b) { return strchr(" \t\n\v\f\r", b) != 0 && b != 0; }
+
+static int is_at(const struct counted *c, int white) {
+    if (c->next >= c->n) return 0;
+    uint8_t b = c->file[c->place[c->next]];
+    return white ? is_white(b) : b >= '0' && b <= '9';
+}
+
+/* white space, one or more, then a number; 0 where either is missing */
+static int take_number(struct counted *c, double *value) {
+    if (!is_at(c, 1)) return 0;
+    while (is_at(c, 1)) c->next++;
+    if (!is_at(c, 0)) return 0;
+    for (*value = 0; is_at(c, 0); c->next++) *value = *value * 10 + (c->file[c->place[c->next]] - '0');
+    return 1;
+}
+
+struct file_told own_pnm_read(int depth, struct lent file, struct lent target) {
+    struct file_told r = {11, 0, 0, 0};
+    if (file.len < 2 || file.at[0] != 'P' || file.at[1] != (depth == 1 ? '4' : '5')) return r;
+    struct counted c = counted_of(file);
+    double w = 0, h = 0, most = 255;
+    int whole = take_number(&c, &w) && take_number(&c, &h) && (depth == 1 || take_number(&c, &most)) && is_at(&c, 1) && most == 255;
+    size_t begins = whole ? c.place[c.next] + 1 : 0;
+    free(c.place);
+    if (!whole) return r;
+    struct lent raster = {file.at + begins, file.len - begins};
+    r.number = w < 1 || w > 1024 || h < 1 || h > 256 ? 1 : raster.len != picture_len(depth, (uint64_t)w, (uint64_t)h) ? 2 : target.len < raster.len ? 8 : 0;
+    if (r.number) return r;
+    struct picture *a = picture_from(depth, (uint64_t)w, (uint64_t)h, raster.at);
+    picture_to(depth, a, target.at);
+    free(a);
+    return (struct file_told){0, 0, (unsigned)w, (unsigned)h};
+}
+
+int own_pnm_write(int depth, uint64_t w, uint64_t h, struct lent source, struct lent target) {
+    int no = source_refusal(depth, w, h, source);
+    if (no) return no;
+    char head[32];
+    size_t n = (size_t)sprintf(head, depth == 1 ? "P4\n%u %u\n" : "P5\n%u %u\n255\n", (unsigned)w, (unsigned)h);
+    if (target.len < n + source.len) return 8;
+    memcpy(target.at, head, n);
+    struct picture *a = picture_from(depth, w, h, source.at);
+    picture_to(depth, a, target.at + n);
+    free(a);
+    return 0;
+}
+
 /* ---- echtext */
 
 static size_t refused(int number, char *text) { return (size_t)sprintf(text, "refused %d\n", number); }

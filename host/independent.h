@@ -46,6 +46,10 @@ struct lent own_last_picture(struct lent first, struct lent second, int depth, u
 struct file_told own_ech_read(struct lent file, struct lent target);
 int own_ech_write(uint64_t kind, uint64_t w, uint64_t h, struct lent source, struct lent target);
 
+/* Raw PBM (depth 1) and raw PGM (depth 8): the bytes that count are listed first, comments left out, and the header is read from that list. */
+struct file_told own_pnm_read(int depth, struct lent file, struct lent target);
+int own_pnm_write(int depth, uint64_t w, uint64_t h, struct lent source, struct lent target);
+
 /* The text that echtext prints of a job, and its length. text has room for OWN_MOST_TEXT bytes. */
 #define OWN_MOST_TEXT (64 + 256 * 1024 * 4)
 size_t own_echtext(const uint8_t *job, size_t job_len, char *text);

@@ -37,10 +37,11 @@ enum qik_refusal {
     QIK_SPLIT = 7,   /* chain and element differ; the first offset at fault comes with it */
     QIK_ROOM = 8,    /* a target, scratch or work buffer is too short */
     QIK_FORM = 9,    /* a file under 10 bytes, or a wrong mark, version or kind */
-    QIK_JOB = 10     /* of the program echtext alone; no function here gives it */
+    QIK_JOB = 10,    /* of the program echtext alone; no function here gives it */
+    QIK_NETPBM = 11  /* the header of a PBM or PGM file is broken, or a PGM maximum is not 255 */
 };
 
-/* Taking answers apart: qik_number, qik_dx and qik_dy any answer of 32 bits; the others the answer of qik_ech_read. */
+/* Taking answers apart: qik_number, qik_dx and qik_dy any answer of 32 bits; the others the answer of a read. */
 
 /* The refusal number of an answer; of a plain answer it is the answer itself. */
 static inline uint32_t qik_number(uint32_t answer) { return answer & 255u; }
@@ -54,7 +55,7 @@ static inline int qik_dy(uint32_t answer) { return (int)((answer >> 16 & 255u) ^
 /* The refusal number of a read. */
 static inline uint32_t qik_read_number(uint64_t answer) { return (uint32_t)(answer & 255u); }
 
-/* The kind of the file that was read: 1, 2 or 3; 0 of a refusal. */
+/* The kind of the ECH file that was read: 1, 2 or 3; 0 of a refusal, and of a PBM or PGM file. */
 static inline uint32_t qik_read_kind(uint64_t answer) { return (uint32_t)(answer >> 8 & 255u); }
 
 /* The pings of the picture that was read; 0 of a refusal. */
@@ -176,6 +177,24 @@ uint64_t qik_ech_read(const uint8_t *file, size_t file_len, uint8_t *target, siz
  * Answer: FORM for another kind, then SIZE, SOURCE, PAD, ROOM in this order, or DONE with the file in target. */
 uint32_t qik_ech_write(uint64_t kind, uint64_t w, uint64_t h, const uint8_t *source, size_t source_len, uint8_t *target,
                        size_t target_len);
+
+/* Reads a raw PBM file, P4. file: the whole file, with one picture and nothing after it. target: room for the picture. A bit 1, which is black, is an echo; the
+ * padding of the rows may be anything, and is 0 in target. White space and comments are those of Netpbm's pages: a comment goes from # through the next line feed or
+ * carriage return, wherever it stands before the raster, and its line end ends nothing; exactly one white space stands before the raster.
+ * Answer: NETPBM, SIZE, SOURCE (the raster's length), ROOM in this order, or DONE with the picture in target. It is packed, number + 65536 * w + 4294967296 * h,
+ * and the plain number where the file is refused: qik_read_number, qik_read_w and qik_read_h take it apart. */
+uint64_t qik_pbm_read(const uint8_t *file, size_t file_len, uint8_t *target, size_t target_len);
+
+/* Reads a raw PGM file, P5, with the maximum 255: the values are the strengths. Buffers and answer are those of qik_pbm_read. */
+uint64_t qik_pgm_read(const uint8_t *file, size_t file_len, uint8_t *target, size_t target_len);
+
+/* Writes a raw PBM file: P4, a line feed, w, a space, h, a line feed, the picture. source: a one-bit picture, exactly. target: room for the file, at most
+ * 12 bytes and the picture. Answer: SIZE, SOURCE, PAD, ROOM in this order, or DONE with the file in target. */
+uint32_t qik_pbm_write(uint64_t w, uint64_t h, const uint8_t *source, size_t source_len, uint8_t *target, size_t target_len);
+
+/* Writes a raw PGM file: P5, a line feed, w, a space, h, a line feed, 255, a line feed, the picture. source: an 8-bit picture, exactly. target: room for the
+ * file, at most 16 bytes and the picture. Answer: SIZE, SOURCE, ROOM in this order, or DONE with the file in target. */
+uint32_t qik_pgm_write(uint64_t w, uint64_t h, const uint8_t *source, size_t source_len, uint8_t *target, size_t target_len);
 
 #ifdef __cplusplus
 }

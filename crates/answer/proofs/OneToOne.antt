@@ -8,7 +8,7 @@ use lib.Dec.{ltb, eqb}
 use lib.IntN.{ℤ, pos, negsuc, subℕ}
 use Rattle.answer.specs.declared.Answer.{Answer}
 use Rattle.answer.specs.declared.Answer.the-variants.{Done, Size, Source, Pad, Shape}
-use Rattle.answer.specs.declared.Answer.the-variants.{Overlap, Chain, Split, Room, Form, Job}
+use Rattle.answer.specs.declared.Answer.the-variants.{Overlap, Chain, Split, Room, Form, Job, Netpbm}
 use Rattle.answer.specs.declared.Told.{Told}
 use Rattle.answer.specs.Answer.{told, plain, centre}
 
@@ -37,7 +37,8 @@ answerOf t =
     (cond (eqb (t .number) 7) (Split (byteOf (t .dx)) (byteOf (t .dy)))
     (cond (eqb (t .number) 8) Room
     (cond (eqb (t .number) 9) Form
-    Job)))))))))
+    (cond (eqb (t .number) 10) Job
+    Netpbm))))))))))
 
 answer-back : (a : Answer) → answerOf (told a) ≡ a
 unfolding told plain
@@ -52,6 +53,7 @@ answer-back (Split x y) = ap₂ Split (byte-back x) (byte-back y)
 answer-back Room = refl
 answer-back Form = refl
 answer-back Job = refl
+answer-back Netpbm = refl
 
 pub told-one-to-one : (a b : Answer) → told a ≡ told b → a ≡ b
 told-one-to-one a b e = sym (answer-back a) ∙ ap answerOf e ∙ answer-back b

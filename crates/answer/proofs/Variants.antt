@@ -7,10 +7,10 @@ use denote.Enum.Declared.{tagOf}
 use Rattle.answer.proofs.Answer.{the-type}
 use Rattle.answer.specs.declared.Answer.{Answer}
 use Rattle.answer.specs.declared.Answer.the-variants.{Done, Size, Source, Pad, Shape}
-use Rattle.answer.specs.declared.Answer.the-variants.{Overlap, Chain, Split, Room, Form, Job}
+use Rattle.answer.specs.declared.Answer.the-variants.{Overlap, Chain, Split, Room, Form, Job, Netpbm}
 use Rattle.answer.specs.Answer.{plain, told}
 
-pub plain-offset : (a : Answer) → OneOf (0 ∷ 1 ∷ 2 ∷ 3 ∷ 4 ∷ 5 ∷ 6 ∷ 8 ∷ 9 ∷ 10 ∷ []) (tagOf the-type a)
+pub plain-offset : (a : Answer) → OneOf (0 ∷ 1 ∷ 2 ∷ 3 ∷ 4 ∷ 5 ∷ 6 ∷ 8 ∷ 9 ∷ 10 ∷ 11 ∷ []) (tagOf the-type a)
     → (pos 0 ≡ told a .dx) × (pos 0 ≡ told a .dy)
 unfolding told plain
 plain-offset Done k = (refl, refl)
@@ -23,4 +23,5 @@ plain-offset Chain k = (refl, refl)
 plain-offset Room k = (refl, refl)
 plain-offset Form k = (refl, refl)
 plain-offset Job k = (refl, refl)
-plain-offset (Split x y) k = absurd (miss (0 ∷ 1 ∷ 2 ∷ 3 ∷ 4 ∷ 5 ∷ 6 ∷ 8 ∷ 9 ∷ 10 ∷ []) 7 tt k)
+plain-offset Netpbm k = (refl, refl)
+plain-offset (Split x y) k = absurd (miss (0 ∷ 1 ∷ 2 ∷ 3 ∷ 4 ∷ 5 ∷ 6 ∷ 8 ∷ 9 ∷ 10 ∷ 11 ∷ []) 7 tt k)

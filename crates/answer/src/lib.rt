@@ -21,6 +21,7 @@ pub enum Answer {
     Room,
     Form,
     Job,
+    Netpbm,
 }
 
 // An answer as a person reads it: its number, and dx and dy, which are 0 but for a split.
@@ -59,6 +60,7 @@ fn number_of(a: Answer) -> u32
         Answer::Room => 8,
         Answer::Form => 9,
         Answer::Job => 10,
+        Answer::Netpbm => 11,
     }
 }
 

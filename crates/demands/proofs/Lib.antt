@@ -12,3 +12,4 @@ pub mod ChainedRun
 pub mod Packing
 pub mod Jobs
 pub mod Files
+pub mod Netpbm

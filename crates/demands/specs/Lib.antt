@@ -8,4 +8,6 @@ pub mod RunCalls
 pub mod Runs
 pub mod FileCalls
 pub mod Files
+pub mod PnmCalls
+pub mod Netpbm
 pub mod Jobs

@@ -1,48 +1,22 @@
 -- The first ten bytes of a file, test after test;
 -- and what an answer that is done tells of a file and of a picture to be written.
 use Prim.Native.Nat.{ℕ, _≤_, _<_}
-use mathlib.Core.Path.{_≡_, sym, ap, _∙_}
-use mathlib.Core.Bool.{true, false, not, cond, _&&_}
+use mathlib.Core.Path.{_≡_, sym, _∙_}
+use mathlib.Core.Bool.{true, false, not, _&&_}
 use mathlib.Core.List.{List}
 use native.Mathlib.Omega.{arith}
 use borrow.Author.Tests.{eq-eqb, ne-eqb, eqb-true, lt-leb, le-leb, leb-true, not-false}
 use lib.Dec.{leb, eqb}
 use lib.ListN.{length, getD}
 use Rattle.basics.proofs.Tests.{both}
-use Rattle.answer.specs.declared.Told.{Told}
-use Rattle.answer.specs.declared.Answer.the-variants.{Done}
-use Rattle.answer.specs.Answer.{told, plain, isDone}
-use Rattle.answer.specs.Refuse.{refuse}
-use Rattle.answer.specs.Lent.{ifDone}
-use Rattle.answer.proofs.Lent.{all-done, in-parts}
-use Rattle.picture.specs.declared.Depth.{Depth}
+use Rattle.answer.specs.Answer.{isDone}
 use Rattle.judge.specs.declared.Padding.the-variants.{Judged}
-use Rattle.judge.specs.Tests.{pictureTests, roomTests, Admitted}
-use Rattle.judge.proofs.Admitted.{admitted, staged}
+use Rattle.judge.specs.Tests.{Admitted}
+use Rattle.judge.proofs.Admitted.{staged}
+use Rattle.judge.proofs.Bodies.{body-admitted}
 use Rattle.ech.specs.File.{headBytes, markOf, versionOf, kindOf, pingsOf}
 use Rattle.ech.specs.File.{binsOf, bodyOf, depthOf, knownKind, formed}
-use Rattle.ech.specs.ReadWrite.{bodyTests, readAnswer, writeAnswer}
-
--- ---- a body, or a picture to be written: the two lists of judge are one
-module _ (depth : Depth) (w h : ℕ) (s : List ℕ) (before room : ℕ) where
-  waits : refuse (pictureTests Judged depth w h s)
-      (ifDone (told Done) (refuse (roomTests depth w h before room) (plain 0)))
-      ≡ refuse (bodyTests depth w h s before room) (plain 0)
-  unfolding told
-  waits =
-      ap (λ b. refuse (pictureTests Judged depth w h s)
-      (cond b (refuse (roomTests depth w h before room) (plain 0)) (plain 0))) all-done
-      ∙ in-parts (pictureTests Judged depth w h s) (roomTests depth w h before room) (plain 0)
-
-  pub body-judged : (a : Told)
-      → a ≡ refuse (pictureTests Judged depth w h s)
-      (ifDone (told Done) (refuse (roomTests depth w h before room) (plain 0)))
-      → a ≡ refuse (bodyTests depth w h s before room) (plain 0)
-  body-judged a e = e ∙ waits
-
-  pub body-admitted : isDone (refuse (bodyTests depth w h s before room) (plain 0)) ≡ true
-      → Admitted Judged depth w h s before room
-  body-admitted e = admitted Judged depth w h s (told Done) before room (ap isDone waits ∙ e) .0
+use Rattle.ech.specs.ReadWrite.{readAnswer, writeAnswer}
 
 -- a file that is read, a picture that is written
 pub file-admitted : (f : List ℕ) (room : ℕ) → isDone (readAnswer f room) ≡ true
@@ -50,14 +24,15 @@ pub file-admitted : (f : List ℕ) (room : ℕ) → isDone (readAnswer f room) �
 unfolding readAnswer
 file-admitted f room e =
     let p = staged (not (formed f)) 9 _ (omega arith) e in
-    (not-false _ (p .0), body-admitted (depthOf (kindOf f)) (pingsOf f) (binsOf f) (bodyOf f) 0 room (p .1))
+    let q = body-admitted Judged (depthOf (kindOf f)) (pingsOf f) (binsOf f) (bodyOf f) 0 room (p .1) in
+    (not-false _ (p .0), q)
 
 pub write-admitted : (kind w h : ℕ) (s t : List ℕ) → isDone (writeAnswer kind w h s t) ≡ true
     → (knownKind kind ≡ true) × Admitted Judged (depthOf kind) w h s headBytes (length t)
 unfolding writeAnswer
 write-admitted kind w h s t e =
     let p = staged (not (knownKind kind)) 9 _ (omega arith) e in
-    (not-false _ (p .0), body-admitted (depthOf kind) w h s headBytes (length t) (p .1))
+    (not-false _ (p .0), body-admitted Judged (depthOf kind) w h s headBytes (length t) (p .1))
 
 -- ---- the tests of a file's first bytes
 -- ten bytes and the three letters

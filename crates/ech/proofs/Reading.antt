@@ -17,10 +17,11 @@ use Rattle.picture.specs.declared.Face.{Face}
 use Rattle.picture.specs.Frame.{pictureBytes, Holds}
 use Rattle.picture.specs.Bytes.{written, faced}
 use Rattle.judge.specs.declared.Padding.the-variants.{Judged}
+use Rattle.judge.specs.Tests.{bodyTests}
 use Rattle.judge.proofs.Admitted.{holds}
 use Rattle.ech.specs.declared.Header.{Header}
 use Rattle.ech.specs.File.{headBytes, depthOf, faceOf, formed, kindOf, pingsOf, binsOf, bodyOf}
-use Rattle.ech.specs.ReadWrite.{bodyTests, pictureOf, GivenBack, readAnswer, readTarget}
+use Rattle.ech.specs.ReadWrite.{pictureOf, GivenBack, readAnswer, readTarget}
 use Rattle.ech.specs.Steps.Body.{refusedAs, bodyAnswer}
 use Rattle.ech.proofs.Judging.{formed-tells, file-admitted}
 
@@ -34,10 +35,10 @@ back-refused : (a : Answer) (kind w h : ℕ) (t : Told) → told a ≡ t → isD
 back-refused a kind w h t e d = record { answer = e; kind = simp d; pings = simp d; bins = simp d }
 
 module _ (kind w h : ℕ) (s : List ℕ) (room : ℕ) (depth : Depth) (a : Answer) (ed : depth ≡ depthOf kind)
-    (ea : told a ≡ refuse (bodyTests depth w h s 0 room) (plain 0)) where
+    (ea : told a ≡ refuse (bodyTests Judged depth w h s 0 room) (plain 0)) where
   answer-is : told a ≡ bodyAnswer kind w h s room
   unfolding bodyAnswer
-  answer-is = ea ∙ ap (λ d. refuse (bodyTests d w h s 0 room) (plain 0)) ed
+  answer-is = ea ∙ ap (λ d. refuse (bodyTests Judged d w h s 0 room) (plain 0)) ed
 
   pub body-done : isDone (told a) ≡ true
       → GivenBack (bodyAnswer kind w h s room) kind w h (record { answer = a; kind = kind; w = w; h = h })

@@ -4,7 +4,7 @@ use mathlib.Core.Path.{_≡_, refl, sym, ap, ap₂, _∙_, subst}
 use mathlib.Core.Bool.{Bool, true, not, cond, _&&_}
 use mathlib.Core.List.{List, [], _∷_, _++_}
 use native.Mathlib.Omega.{arith}
-use borrow.Author.Tests.{eqb-true, le-leb, eq-eqb, le-ltb}
+use borrow.Author.Tests.{eqb-true, le-leb}
 use lib.Dec.{eqb}
 use lib.ListN.{length, getD, take, drop, length-append, length-drop, take-append-drop}
 use lib.Seq.{take-at, drop-at, length-take-le, getD-take, getD-drop}
@@ -16,7 +16,8 @@ use Rattle.answer.specs.Refuse.{refuse}
 use Rattle.answer.specs.Lent.{unlessRefused}
 use Rattle.basics.specs.Bytes.{Bytes}
 use Rattle.judge.specs.declared.Padding.the-variants.{Judged}
-use Rattle.judge.specs.Tests.{Admitted}
+use Rattle.judge.specs.Tests.{bodyTests, Admitted}
+use Rattle.judge.proofs.Bodies.{body-passes}
 use Rattle.picture.specs.declared.Depth.{Depth}
 use Rattle.picture.specs.Frame.{top, sizedFrame, pictureBytes}
 use Rattle.picture.specs.Bytes.{bytesOf, written, faced, paddingClear}
@@ -25,15 +26,9 @@ use Rattle.picture.proofs.Bytes.{bytes-long, bytes-clear, faced-small}
 use Rattle.copies.proofs.ReadBack.{faced-twice}
 use Rattle.ech.specs.File.{headBytes, knownKind, kindOf, pingsOf, binsOf}
 use Rattle.ech.specs.File.{bodyOf, depthOf, faceOf, formed, headOf, fileOf}
-use Rattle.ech.specs.ReadWrite.{bodyTests, readAnswer, readTarget, writeAnswer, writeTarget}
+use Rattle.ech.specs.ReadWrite.{readAnswer, readTarget, writeAnswer, writeTarget}
 use Rattle.ech.proofs.Judging.{formed-tells, file-admitted, write-admitted}
 use Rattle.ech.proofs.Writing.{head-long}
-
--- an admitted picture passes the tests
-passes : (depth : Depth) (w h : ℕ) (s : List ℕ) (before room : ℕ) → Admitted Judged depth w h s before room
-    → isDone (refuse (bodyTests depth w h s before room) (plain 0)) ≡ true
-unfolding plain
-passes depth w h s before room p = simp (p .sized, eq-eqb _ _ (p .whole), p .clear, le-ltb _ _ (p .roomy))
 
 -- ---- what is written is formed, and says what it was written with
 module _ (kind w h : ℕ) (known : knownKind kind ≡ true) (rest : List ℕ) where
@@ -70,7 +65,8 @@ read-admitted f u kind w h body ef ek ew eh eb p =
     (done, ap (λ b. cond b (picture (kindOf f) (pingsOf f) (binsOf f) (bodyOf f)) u) done ∙ same)
   where
     answer : Bool → ℕ → ℕ → ℕ → List ℕ → Bool
-    answer b k x y l = isDone (refuse ((not b, 9) ∷ bodyTests (depthOf k) x y l 0 (length u)) (plain 0))
+    answer b k x y l =
+        isDone (refuse ((not b, 9) ∷ bodyTests Judged (depthOf k) x y l 0 (length u)) (plain 0))
 
     picture : ℕ → ℕ → ℕ → List ℕ → List ℕ
     picture k x y l = written (depthOf k) (faced (depthOf k) (faceOf k) l x) x y u
@@ -79,7 +75,7 @@ read-admitted f u kind w h body ef ek ew eh eb p =
     done =
         ap₂ (λ b k. answer b k (pingsOf f) (binsOf f) (bodyOf f)) ef ek
         ∙ ap₂ (λ x y. answer true kind x y (bodyOf f)) ew eh ∙ ap (answer true kind w h) eb
-        ∙ passes (depthOf kind) w h body 0 (length u) p
+        ∙ body-passes Judged (depthOf kind) w h body 0 (length u) p
 
     same : picture (kindOf f) (pingsOf f) (binsOf f) (bodyOf f) ≡ picture kind w h body
     same =
@@ -239,9 +235,9 @@ module _ (f : List ℕ) (bytes : Bytes f) (ok : Accepted f) where
   unfolding writeAnswer writeTarget unlessRefused
   written-back t' room =
       let done : isDone (writeAnswer (kindOf f) (pingsOf f) (binsOf f) pictureIn t') ≡ true =
-      ap (λ b. isDone (refuse ((not b, 9) ∷ bodyTests (depthOf (kindOf f))
+      ap (λ b. isDone (refuse ((not b, 9) ∷ bodyTests Judged (depthOf (kindOf f))
       (pingsOf f) (binsOf f) pictureIn headBytes (length t')) (plain 0))) (ok .known)
-      ∙ passes (depthOf (kindOf f)) (pingsOf f)
+      ∙ body-passes Judged (depthOf (kindOf f)) (pingsOf f)
       (binsOf f) pictureIn headBytes (length t') (picture-admitted t' room) in
       record {
         done = done;

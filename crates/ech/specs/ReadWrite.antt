@@ -8,23 +8,18 @@ use Rattle.answer.specs.declared.Told.{Told}
 use Rattle.answer.specs.Answer.{told, plain, isDone}
 use Rattle.answer.specs.Refuse.{Test, refuse}
 use Rattle.answer.specs.Lent.{unlessRefused}
-use Rattle.picture.specs.declared.Depth.{Depth}
 use Rattle.picture.specs.Frame.{pictureBytes}
 use Rattle.picture.specs.Bytes.{Picture, written, faced}
 use Rattle.judge.specs.declared.Padding.the-variants.{Judged}
-use Rattle.judge.specs.Tests.{pictureTests, roomTests}
+use Rattle.judge.specs.Tests.{bodyTests}
 use Rattle.ech.specs.declared.Header.{Header}
 use Rattle.ech.specs.File.{headBytes, knownKind, depthOf, faceOf, formed}
 use Rattle.ech.specs.File.{kindOf, pingsOf, binsOf, bodyOf, fileOf}
 
--- 1, 2, 3, 8: a picture, its padding judged, and the room for it after `before` bytes
-abbrev pub bodyTests : Depth → ℕ → ℕ → List ℕ → ℕ → ℕ → List Test
-bodyTests depth w h s before room = pictureTests Judged depth w h s ++ roomTests depth w h before room
-
 -- a file that is read is met as 9, 1, 2, 3, 8, its body being the source
 abbrev pub fileTests : List ℕ → ℕ → List Test
 fileTests f room =
-    (not (formed f), 9) ∷ bodyTests (depthOf (kindOf f)) (pingsOf f) (binsOf f) (bodyOf f) 0 room
+    (not (formed f), 9) ∷ bodyTests Judged (depthOf (kindOf f)) (pingsOf f) (binsOf f) (bodyOf f) 0 room
 
 unfoldable pub readAnswer : List ℕ → ℕ → Told
 readAnswer f room = refuse (fileTests f room) (plain 0)
@@ -47,7 +42,7 @@ pub record GivenBack (answer-told : Told) (kind-read pings-read bins-read : ℕ)
 
 -- the writer meets 9 for a kind it does not know, then 1, 2, 3, 8
 abbrev pub writeTests : ℕ → ℕ → ℕ → List ℕ → ℕ → List Test
-writeTests kind w h s room = (not (knownKind kind), 9) ∷ bodyTests (depthOf kind) w h s headBytes room
+writeTests kind w h s room = (not (knownKind kind), 9) ∷ bodyTests Judged (depthOf kind) w h s headBytes room
 
 unfoldable pub writeAnswer : ℕ → ℕ → ℕ → List ℕ → List ℕ → Told
 writeAnswer kind w h s t = refuse (writeTests kind w h s (length t)) (plain 0)

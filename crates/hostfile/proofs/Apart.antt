@@ -17,11 +17,21 @@ use Rattle.answer.proofs.Packed.{packed-plain}
 use Rattle.ech.specs.File.{kindOf, pingsOf, binsOf}
 use Rattle.ech.specs.ReadWrite.{fileTests, readAnswer}
 use Rattle.ech.proofs.RoundTrip.{accepted}
-use Rattle.hostfile.specs.Read.{readNumber}
-use Rattle.hostfile.specs.Apart.{readApart, readTold}
+use Rattle.picture.specs.declared.Depth.{Depth}
+use Rattle.picture.specs.declared.Depth.the-variants.{OneBit, EightBit}
+use Rattle.netpbm.specs.File as pnm
+use Rattle.netpbm.specs.ReadWrite as files
+use Rattle.netpbm.proofs.Reading as pnm-reading
+use Rattle.hostfile.specs.Read.{readNumber, pnmNumber}
+use Rattle.hostfile.specs.Apart.{readApart, readTold, pnmTold}
 use Rattle.hostfile.proofs.qik_ech_read.Kinds as kinds
 use Rattle.hostfile.proofs.qik_ech_read.Reads as reads
+use Rattle.hostfile.proofs.qik_pbm_read.Kinds as pbm-kinds
+use Rattle.hostfile.proofs.qik_pbm_read.Reads as pbm-reads
+use Rattle.hostfile.proofs.qik_pgm_read.Kinds as pgm-kinds
+use Rattle.hostfile.proofs.qik_pgm_read.Reads as pgm-reads
 use Rattle.hostfile.proofs.ReadPacked.{Packable, packable-if}
+use Rattle.hostfile.proofs.PnmPacked.{small-if}
 
 -- ---- a refusal's number is a byte, and has no offset
 abbrev Few : List Test → Type 0
@@ -83,3 +93,31 @@ pub qik-ech-read-apart : (κs : Lfts 2) (a : Dens κs kinds.ps) (r : resT kinds.
     (e : AtExit (endedOf 2 kinds.ps kinds.r) κs) → reads.Learnt κs a r e
     → readApart r ≡ readTold (a .0 .now) (a .1 .0 .now)
 qik-ech-read-apart κs a r e p = ap readApart (p .0) ∙ read-apart (a .0 .now) (a .1 .0 .now)
+
+-- ---- the same of PBM and PGM
+pub pnm-apart : (depth : Depth) (f t : List ℕ) → readApart (pnmNumber depth f t) ≡ pnmTold depth f t
+unfolding pnmNumber pnmTold files.readAnswer
+pnm-apart depth f t =
+    let ts = files.readTests depth f (length t) in
+    let done = isDone (files.readAnswer depth f (length t)) in
+    let w = cond done (pnm.pingsOf depth f) 0 in
+    let h = cond done (pnm.binsOf depth f) 0 in
+    ap (λ n. readApart (n + w * 2 ^ 16 + h * 4294967296))
+    (number-packed ts ∙ no-kind (refuse ts (plain 0) .number))
+    ∙ told-apart (refuse ts (plain 0) .number) 0 w h
+    (number-few ts (lit< tt, (lit< tt, (lit< tt, (lit< tt, tt)))))
+    (small-if done (pnm.pingsOf depth f) (pnm.binsOf depth f)
+    (λ e. pnm-reading.file-admitted depth f (length t) e .1 .sized))
+  where
+    no-kind : (n : ℕ) → n ≡ n + 0 * 2 ^ 8
+    no-kind n = omega arith
+
+pub qik-pbm-read-apart : (κs : Lfts 2) (a : Dens κs pbm-kinds.ps) (r : resT pbm-kinds.r κs .Denot)
+    (e : AtExit (endedOf 2 pbm-kinds.ps pbm-kinds.r) κs) → pbm-reads.Learnt κs a r e
+    → readApart r ≡ pnmTold OneBit (a .0 .now) (a .1 .0 .now)
+qik-pbm-read-apart κs a r e p = ap readApart (p .0) ∙ pnm-apart OneBit (a .0 .now) (a .1 .0 .now)
+
+pub qik-pgm-read-apart : (κs : Lfts 2) (a : Dens κs pgm-kinds.ps) (r : resT pgm-kinds.r κs .Denot)
+    (e : AtExit (endedOf 2 pgm-kinds.ps pgm-kinds.r) κs) → pgm-reads.Learnt κs a r e
+    → readApart r ≡ pnmTold EightBit (a .0 .now) (a .1 .0 .now)
+qik-pgm-read-apart κs a r e p = ap readApart (p .0) ∙ pnm-apart EightBit (a .0 .now) (a .1 .0 .now)

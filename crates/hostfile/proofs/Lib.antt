@@ -1,3 +1,4 @@
 pub mod ReadPacked
+pub mod PnmPacked
 pub mod Apart
 pub mod Settled

@@ -8,6 +8,9 @@ use Rattle.answer.specs.Answer.{isDone}
 use Rattle.answer.specs.Apart.{byteFrom}
 use Rattle.ech.specs.File.{kindOf, pingsOf, binsOf}
 use Rattle.ech.specs.ReadWrite.{readAnswer}
+use Rattle.picture.specs.declared.Depth.{Depth}
+use Rattle.netpbm.specs.File as pnm
+use Rattle.netpbm.specs.ReadWrite as files
 
 pub record ReadTold : Type 0 where
   pub number : ℕ
@@ -34,4 +37,15 @@ readTold f t =
       kind = cond done (kindOf f) 0;
       w = cond done (pingsOf f) 0;
       h = cond done (binsOf f) 0;
+    }
+
+-- the same of a PBM or PGM file, which has no kind
+unfoldable pub pnmTold : Depth → List ℕ → List ℕ → ReadTold
+pnmTold depth f t =
+    let done = isDone (files.readAnswer depth f (length t)) in
+    record {
+      number = files.readAnswer depth f (length t) .number;
+      kind = 0;
+      w = cond done (pnm.pingsOf depth f) 0;
+      h = cond done (pnm.binsOf depth f) 0;
     }

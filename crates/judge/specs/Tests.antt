@@ -36,6 +36,11 @@ abbrev pub pictureTests : Padding → Depth → ℕ → ℕ → List ℕ → Lis
 pictureTests padding depth w h s =
     sizeTests w h ++ (sourceTests depth w h s ++ paddingTests padding depth w h s)
 
+-- a picture by itself, and the room for it after `before` bytes: 1, 2, 3, 8
+abbrev pub bodyTests : Padding → Depth → ℕ → ℕ → List ℕ → ℕ → ℕ → List Test
+bodyTests padding depth w h s before room =
+    pictureTests padding depth w h s ++ roomTests depth w h before room
+
 -- an operation by one element, whose descriptor is well made or not: 1, 2, 3, SHAPE, ROOM
 abbrev pub shapeTests : Bool → List Test
 shapeTests made = (not made, 4) ∷ []

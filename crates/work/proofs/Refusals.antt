@@ -9,7 +9,7 @@ use lib.Dec.{ltb, lit<}
 use lib.ListN.{length}
 use Rattle.answer.specs.declared.Answer.{Answer}
 use Rattle.answer.specs.declared.Answer.the-variants.{Done, Size, Source, Pad, Shape}
-use Rattle.answer.specs.declared.Answer.the-variants.{Overlap, Chain, Split, Room, Form, Job}
+use Rattle.answer.specs.declared.Answer.the-variants.{Overlap, Chain, Split, Room, Form, Job, Netpbm}
 use Rattle.answer.specs.declared.Told.{Told}
 use Rattle.answer.specs.Answer.{told, plain, isDone}
 use Rattle.answer.specs.Refuse.{refuse}
@@ -128,7 +128,7 @@ read-taken f room n p l t =
     (record { sized = a .sized; whole = a .whole; clear = a .clear; roomy = omega (arith, a .roomy) })
 
 -- every answer's number has at most two digits
-pub number-few : (a : Answer) → told a .number ≤ 10
+pub number-few : (a : Answer) → told a .number ≤ 99
 unfolding told plain
 number-few Done = omega arith
 number-few Size = omega arith
@@ -141,3 +141,4 @@ number-few (Split x y) = omega arith
 number-few Room = omega arith
 number-few Form = omega arith
 number-few Job = omega arith
+number-few Netpbm = omega arith

@@ -1,8 +1,9 @@
 -- Stands on judge's refusal, of the body alone.
 -- Kind, W and H are given back where nothing is refused, and else 0.
-use Rattle.ech.proofs.Judging.{body-judged}
+use Rattle.judge.specs.declared.Padding.the-variants.{Judged}
+use Rattle.judge.specs.Tests.{bodyTests}
+use Rattle.judge.proofs.Bodies.{body-judged}
 use Rattle.ech.proofs.Reading.{body-done, body-refused}
-use Rattle.ech.specs.ReadWrite.{bodyTests}
 use Rattle.answer.specs.Answer.{told, plain}
 use Rattle.answer.specs.Refuse.{refuse}
 use mathlib.Core.Path.{_≡_, sym, _∙_}
@@ -12,9 +13,11 @@ use Rattle.ech.proofs.judge_body.Tie as tie
 
 judged : (c : tie.After-refusal) → let a = c .before .before .before .args in
     told (c .refusal .result)
-    ≡ refuse (bodyTests (c .before .depth-of .result) (a .w) (a .h) (a .body .now) 0 (a .room)) (plain 0)
+    ≡ refuse (bodyTests Judged (c .before .depth-of .result) (a .w) (a .h) (a .body .now) 0 (a .room))
+    (plain 0)
 judged c = let a = c .before .before .before .args in
-    body-judged (c .before .depth-of .result) (a .w) (a .h) (a .body .now) 0 (a .room) _ (c .refusal .ensures)
+    body-judged Judged (c .before .depth-of .result) (a .w) (a .h) (a .body .now) 0 (a .room) _
+    (c .refusal .ensures)
 
 returns : tie.Need-returns
 returns c = let r = c .before .before in

@@ -1,9 +1,11 @@
 -- Stands on is_known, judge's refusal and put_file: what nothing refuses is admitted, and is written.
 -- A refusal writes nothing.
-use Rattle.ech.proofs.Judging.{body-judged, write-admitted}
+use Rattle.judge.specs.declared.Padding.the-variants.{Judged}
+use Rattle.judge.specs.Tests.{bodyTests}
+use Rattle.judge.proofs.Bodies.{body-judged}
+use Rattle.ech.proofs.Judging.{write-admitted}
 use Rattle.ech.proofs.Writing.{unknown, write-answer, write-done, write-refused}
 use Rattle.ech.specs.File.{headBytes, knownKind}
-use Rattle.ech.specs.ReadWrite.{bodyTests}
 use Rattle.answer.specs.declared.Answer.the-variants.{Form}
 use Rattle.answer.specs.Answer.{told, plain, isDone}
 use Rattle.answer.specs.Refuse.{refuse}
@@ -20,9 +22,9 @@ known c = sym (c .before .is-known .ensures) ∙ c .if1 .taken
 judged : (c : tie.After-refusal) → let a = c .before .before .before .before .before .before .args in
     let d = c .before .depth-of .result in
     told (c .refusal .result)
-    ≡ refuse (bodyTests d (a .w) (a .h) (a .source .now) headBytes (length (a .target .now))) (plain 0)
+    ≡ refuse (bodyTests Judged d (a .w) (a .h) (a .source .now) headBytes (length (a .target .now))) (plain 0)
 judged c = let a = c .before .before .before .before .before .before .args in
-    body-judged (c .before .depth-of .result) (a .w) (a .h)
+    body-judged Judged (c .before .depth-of .result) (a .w) (a .h)
     (a .source .now) headBytes (length (a .target .now)) _
     (c .refusal .ensures)
 

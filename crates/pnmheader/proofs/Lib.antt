@@ -1,0 +1,4 @@
+pub mod Scans
+pub mod Marks
+pub mod Worked
+pub mod Settled
