@@ -4,15 +4,16 @@
 #include <leptonica/allheaders.h>
 #include <string.h>
 
-static PIX *from, *to;
+static PIX *from, *to, *middle;
 static SEL *sel;
 
 void leptonica_prepare(int w, int h, const uint8_t *source, const uint8_t *element) {
     resetMorphBoundaryCondition(SYMMETRIC_MORPH_BC);
     pixDestroy(&from);
     pixDestroy(&to);
+    pixDestroy(&middle);
     selDestroy(&sel);
-    from = pixCreate(w, h, 1), to = pixCreate(w, h, 1);
+    from = pixCreate(w, h, 1), to = pixCreate(w, h, 1), middle = pixCreate(w, h, 1);
     for (int y = 0; y < h; y++)
         for (int x = 0; x < w; x++)
             if (source[y * ((w + 7) / 8) + x / 8] >> (7 - x % 8) & 1) pixSetPixel(from, x, y, 1);
@@ -25,7 +26,15 @@ void leptonica_prepare(int w, int h, const uint8_t *source, const uint8_t *eleme
 
 void leptonica_run(char way) {
     if (way == 'e') pixErode(to, from, sel);
+    else if (way == 'b') pixClose(to, from, sel);
+    else if (way == 'g') pixDilate(to, from, sel);
     else pixOpen(to, from, sel);
+    if (way == 'w') pixSubtract(to, from, to);
+    if (way == 'b') pixSubtract(to, to, from);
+    if (way == 'g') {
+        pixErode(middle, from, sel);
+        pixSubtract(to, to, middle);
+    }
 }
 
 void leptonica_result(uint8_t *target) {

@@ -20,8 +20,16 @@ extern "C" void opencv_prepare(int w, int h, const uint8_t *source, const uint8_
 }
 
 extern "C" void opencv_run(char way) {
+    if (way == 'b') {
+        cv::dilate(from, middle, about, turned);
+        cv::erode(middle, to, kernel, anchor);
+        cv::subtract(to, from, to);
+        return;
+    }
     cv::erode(from, way == 'e' ? to : middle, kernel, anchor);
-    if (way == 'o') cv::dilate(middle, to, about, turned);
+    if (way != 'e') cv::dilate(way == 'g' ? from : middle, to, about, turned);
+    if (way == 'w') cv::subtract(from, to, to);
+    if (way == 'g') cv::subtract(to, middle, to);
 }
 
 extern "C" void opencv_result(uint8_t *target) {

@@ -21,12 +21,24 @@ static char way;
 
 static int run_library(void) {
     if (way == 'e') return (depth == 1 ? qik_erode1 : qik_erode8)(W, H, source, source_len, element, element_len, target, MOST) == QIK_DONE;
-    return (depth == 1 ? qik_open1 : qik_open8)(W, H, source, source_len, element, element_len, target, MOST, scratch, MOST) == QIK_DONE;
+    return (way == 'w'   ? depth == 1 ? qik_white_tophat1 : qik_white_tophat8
+            : way == 'b' ? depth == 1 ? qik_black_tophat1 : qik_black_tophat8
+            : way == 'g' ? depth == 1 ? qik_gradient1 : qik_gradient8
+            : depth == 1 ? qik_open1
+                         : qik_open8)(W, H, source, source_len, element, element_len, target, MOST, scratch, MOST) == QIK_DONE;
 }
 
 static int run_plain(void) {
+    if (way == 'b') {
+        plain_dilate(depth, W, H, source, element, scratch);
+        plain_erode(depth, W, H, scratch, element, target);
+        plain_less(depth, source_len, target, source, target);
+        return 1;
+    }
     plain_erode(depth, W, H, source, element, way == 'e' ? target : scratch);
-    if (way == 'o') plain_dilate(depth, W, H, scratch, element, target);
+    if (way != 'e') plain_dilate(depth, W, H, way == 'g' ? source : scratch, element, target);
+    if (way == 'w') plain_less(depth, source_len, source, target, target);
+    if (way == 'g') plain_less(depth, source_len, target, scratch, target);
     return 1;
 }
 
@@ -112,7 +124,7 @@ static void start_element(int w, int h, int column, int row) {
 
 static void set(int c, int r) { element[4 + r * ((element[0] + 7) / 8) + c / 8] |= (uint8_t)(128 >> c % 8); }
 
-enum { SHAPES = 6, DISC = 4, RANDOM = 5 };
+enum { SHAPES = 6, SQUARE = 1, DISC = 4, RANDOM = 5 };
 
 static const char *const shapes[SHAPES] = {"31-row", "3 x 3", "8 x 8", "31 x 31", "disc 15", "random 32"};
 
@@ -165,14 +177,16 @@ int main(void) {
     for (int i = 0; i < WHO; i++) printf(" %*s", i == LIBRARY ? 10 : 19, who[i].name);
     putchar('\n');
     int bad = 0;
+    static const char ways[] = "eowbg", *const names[] = {"erode", "open", "white", "black", "grad"};
     for (depth = 1; depth <= 8; depth += 7)
-        for (int op = 0; op < 2; op++)
+        for (int op = 0; ways[op]; op++)
             for (int shape = 0; shape < SHAPES; shape++) {
-                way = op ? 'o' : 'e';
+                way = ways[op];
+                if (op > 1 && shape != SQUARE) continue; /* the differences by 3 x 3 alone: they cost the same by any element */
                 make_source();
                 int cells = make_element(shape);
                 double own = 0;
-                printf("%-5d %-5s %-10s %5d", depth, op ? "open" : "erode", shapes[shape], cells);
+                printf("%-5d %-5s %-10s %5d", depth, names[op], shapes[shape], cells);
                 for (int i = 0; i < WHO; i++) {
                     if (who[i].depth && who[i].depth != depth) {
                         printf(" %19s", "");

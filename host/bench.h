@@ -1,5 +1,5 @@
-/* What the benchmark asks of a library that may be there: prepare makes its own picture and element, which is not measured; run is the operation, 'e' or 'o';
- * result gives the picture back in our form. */
+/* What the benchmark asks of a library that may be there: prepare makes its own picture and element, which is not measured; run is the operation, 'e', 'o',
+ * 'w', 'b' or 'g'; result gives the picture back in our form. */
 #ifndef BENCH_H
 #define BENCH_H
 

@@ -80,6 +80,12 @@ static const struct function {
     {"dilate8", FLAT, 8, 'd', qik_dilate8, 0, 0, "01248"},
     {"open8", FLAT, 8, 'o', 0, qik_open8, 0, "01248"},
     {"close8", FLAT, 8, 'c', 0, qik_close8, 0, "01248"},
+    {"white_tophat1", FLAT, 1, 'w', 0, qik_white_tophat1, 0, "012348"},
+    {"black_tophat1", FLAT, 1, 'b', 0, qik_black_tophat1, 0, "012348"},
+    {"gradient1", FLAT, 1, 'g', 0, qik_gradient1, 0, "012348"},
+    {"white_tophat8", FLAT, 8, 'w', 0, qik_white_tophat8, 0, "01248"},
+    {"black_tophat8", FLAT, 8, 'b', 0, qik_black_tophat8, 0, "01248"},
+    {"gradient8", FLAT, 8, 'g', 0, qik_gradient8, 0, "01248"},
     {"hit_or_miss", HIT, 1, 0, 0, 0, 0, "0123458"},
     {"weighted_erode", WEIGHTED, 8, 'e', qik_weighted_erode, 0, 0, "01248"},
     {"weighted_dilate", WEIGHTED, 8, 'd', qik_weighted_dilate, 0, 0, "01248"},
@@ -561,6 +567,18 @@ static void worked(void) {
     must("P10", qik_dilate1(3, 3, LENT(middle), LENT(corner), LENT(t3)) == 0 && t3[0] == 0 && t3[1] == 0x40 && t3[2] == 0x60);
     static const uint8_t lone[] = {1, 1, 0, 0, 0x80};
     s[0] = 0x68, must("P11", qik_hit_or_miss(5, 1, LENT(s), LENT(lone), LENT(on), LENT(t)) == 0 && t[0] == 0x28);
+
+    s[0] = 0x60, must("P3 less its opening", qik_white_tophat1(7, 1, LENT(s), LENT(T), LENT(t), LENT(m)) == 0 && t[0] == 0x60 && m[0] == 0);
+    s[0] = 0x6c, must("P6, the closing less it", qik_black_tophat1(7, 1, LENT(s), LENT(L), LENT(t), LENT(m)) == 0 && t[0] == 0x12 && m[0] == 0x7e);
+    for (int v = 0; v < 128; v++) {
+        s[0] = (uint8_t)(2 * v);
+        must("empty, white", qik_white_tophat1(7, 1, LENT(s), LENT(empty), LENT(t), LENT(m)) == 0 && t[0] == s[0] && m[0] == 0xfe);
+        must("empty, black", qik_black_tophat1(7, 1, LENT(s), LENT(empty), LENT(t), LENT(m)) == 0 && t[0] == (s[0] ^ 0xfe) && m[0] == 0);
+        must("empty, gradient", qik_gradient1(7, 1, LENT(s), LENT(empty), LENT(t), LENT(m)) == 0 && t[0] == 0 && m[0] == 0xfe);
+    }
+    uint8_t m3[3];
+    must("P9's gradient is held", qik_gradient8(3, 1, LENT(echoes), LENT(on), LENT(t3), LENT(m3)) == 0 && t3[0] == 0 && t3[1] == 0 && t3[2] == 0 && m3[0] == 200 && m3[1] == 30 && m3[2] == 255);
+    must("P9's white top-hat", qik_white_tophat8(3, 1, LENT(echoes), LENT(back), LENT(t3), LENT(m3)) == 0 && t3[0] == 0 && t3[1] == 170 && t3[2] == 0 && m3[1] == 10);
 
     static const uint8_t e12[] = {3, 1, 1, 0, 0xe0}, c12[] = {2, 1, 1, 0, 0xc0, 2, 1, 0, 0, 0xc0};
     static const uint8_t c13[] = {2, 1, 0, 0, 0x40, 2, 1, 1, 0, 0x80};

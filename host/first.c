@@ -1,4 +1,4 @@
-/* A first program: opens a small picture, meets a refusal, checks chains. It exits with 1 if an answer is not the one that it expects. */
+/* A first program: opens a small picture, sees what the opening took away, meets a refusal, checks chains. It exits with 1 if an answer is not the one that it expects. */
 #include "qiksavlut.h"
 
 #include <stdio.h>
@@ -49,6 +49,12 @@ int main(void) {
     good &= answer == QIK_DONE;
     print_picture("opened", target);
     for (int y = 0; y < H; y++) good &= (target[y * ROW] != 0) == (y == 3 || y == 4);
+
+    /* What the opening took away, alone: the splash, and the echo that has just begun. The scratch has the eroded picture again. */
+    answer = qik_white_tophat1(W, H, source, sizeof source, trailing, sizeof trailing, target, sizeof target, scratch, sizeof scratch);
+    good &= answer == QIK_DONE;
+    print_picture("white top-hat", target);
+    for (int i = 0; i < ROW * H; i++) good &= target[i] == (i / ROW == 1 || i / ROW == 2 ? source[i] : 0);
 
     /* A source that is one byte short is refused, by number, and no byte of target changes. */
     uint8_t kept[sizeof target];

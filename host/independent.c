@@ -156,6 +156,12 @@ static struct picture *dilated(const struct picture *a, const struct element *e)
     return t;
 }
 
+/* request (ii): each point less the other's, held at 0; of one bit that is set difference */
+static void take_away(struct picture *a, const struct picture *b) {
+    for (int y = 0; y < a->h; y++)
+        for (int x = 0; x < a->w; x++) *at(a, x, y) = (uint8_t)held(*at(a, x, y) - *at(b, x, y));
+}
+
 static struct picture *swept(int depth, char way, const struct picture *a, const struct element *e) {
     return way == 'e' ? eroded(a, e, depth == 1 ? 1 : 255) : dilated(a, e);
 }
@@ -167,17 +173,22 @@ static int operate(int depth, char way, uint64_t w, uint64_t h, struct lent sour
     if (no) return no;
     if (!read_element(element, weighted, &e)) return 4;
     size_t need = picture_len(depth, w, h);
-    if (target.len < need || ((way == 'o' || way == 'c') && scratch.len < need)) return 8;
+    if (target.len < need || (way != 'e' && way != 'd' && scratch.len < need)) return 8;
     struct picture *a = picture_from(depth, w, h, source.at);
     if (way == 'e' || way == 'd') {
         struct picture *t = swept(depth, way, a, &e);
         picture_to(depth, t, target.at);
         free(t);
     } else {
-        struct picture *middle = swept(depth, way == 'o' ? 'e' : 'd', a, &e);
-        struct picture *t = swept(depth, way == 'o' ? 'd' : 'e', middle, &e);
+        /* opening and white top-hat begin with erosion, closing and black top-hat with dilation, and go on from there; the gradient has both of the picture itself */
+        int closes = way == 'c' || way == 'b';
+        struct picture *middle = swept(depth, closes ? 'd' : 'e', a, &e);
+        struct picture *t = swept(depth, closes ? 'e' : 'd', way == 'g' ? a : middle, &e);
         picture_to(depth, middle, scratch.at);
-        picture_to(depth, t, target.at);
+        if (way == 'b') take_away(t, a);
+        if (way == 'g') take_away(t, middle);
+        if (way == 'w') take_away(a, t);
+        picture_to(depth, way == 'w' ? a : t, target.at);
         free(middle);
         free(t);
     }

@@ -1,5 +1,6 @@
 /* The independent implementation: document 01 in plain C, point by point, for the comparison. It shares no code and no table with the library, and it is
- * made to be read beside document 01, not to be fast. The depth is 1 or 8; the way is 'e', 'd', 'o' or 'c' as in echtext. */
+ * made to be read beside document 01, not to be fast. The depth is 1 or 8; the way is 'e', 'd', 'o' or 'c' as in echtext, or 'w', 'b' or 'g' for white top-hat, black top-hat and
+ * gradient, of flat elements. */
 #ifndef INDEPENDENT_H
 #define INDEPENDENT_H
 

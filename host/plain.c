@@ -78,6 +78,13 @@ void plain_dilate(int depth, int w, int h, const uint8_t *source, const uint8_t 
     (depth == 1 ? sweep1 : sweep8)(0, w, h, source, element, target);
 }
 
+void plain_less(int depth, size_t n, const uint8_t *from, const uint8_t *away, uint8_t *target) {
+    if (depth == 1)
+        for (size_t i = 0; i < n; i++) target[i] = (uint8_t)(from[i] & ~away[i]);
+    else
+        for (size_t i = 0; i < n; i++) target[i] = (uint8_t)(from[i] > away[i] ? from[i] - away[i] : 0);
+}
+
 /* ---- chains: the sums of columns and rows as a board of words, bit x of word y */
 
 enum { SUMS = 36 };

@@ -108,6 +108,36 @@ uint32_t qik_open8(uint64_t w, uint64_t h, const uint8_t *source, size_t source_
 uint32_t qik_close8(uint64_t w, uint64_t h, const uint8_t *source, size_t source_len, const uint8_t *element, size_t element_len,
                     uint8_t *target, size_t target_len, uint8_t *scratch, size_t scratch_len);
 
+/* One-bit white top-hat: the source less its opening. What the opening takes away stays alone: short echoes.
+ * Buffers and answer are those of qik_open1; scratch afterwards holds the eroded picture. */
+uint32_t qik_white_tophat1(uint64_t w, uint64_t h, const uint8_t *source, size_t source_len, const uint8_t *element, size_t element_len,
+                           uint8_t *target, size_t target_len, uint8_t *scratch, size_t scratch_len);
+
+/* One-bit black top-hat: the closing less the source. What the closing fills stays alone: short gaps.
+ * Buffers and answer are those of qik_open1; scratch afterwards holds the dilated picture. */
+uint32_t qik_black_tophat1(uint64_t w, uint64_t h, const uint8_t *source, size_t source_len, const uint8_t *element, size_t element_len,
+                           uint8_t *target, size_t target_len, uint8_t *scratch, size_t scratch_len);
+
+/* One-bit gradient: the points that the dilation has and the erosion has not. Edges stay alone.
+ * Buffers and answer are those of qik_open1; scratch afterwards holds the eroded picture. */
+uint32_t qik_gradient1(uint64_t w, uint64_t h, const uint8_t *source, size_t source_len, const uint8_t *element, size_t element_len,
+                       uint8_t *target, size_t target_len, uint8_t *scratch, size_t scratch_len);
+
+/* 8-bit white top-hat: the source less its opening, which is never the greater.
+ * Buffers and answer are those of qik_open8; scratch afterwards holds the eroded picture. */
+uint32_t qik_white_tophat8(uint64_t w, uint64_t h, const uint8_t *source, size_t source_len, const uint8_t *element, size_t element_len,
+                           uint8_t *target, size_t target_len, uint8_t *scratch, size_t scratch_len);
+
+/* 8-bit black top-hat: the closing less the source, which is never the greater.
+ * Buffers and answer are those of qik_open8; scratch afterwards holds the dilated picture. */
+uint32_t qik_black_tophat8(uint64_t w, uint64_t h, const uint8_t *source, size_t source_len, const uint8_t *element, size_t element_len,
+                           uint8_t *target, size_t target_len, uint8_t *scratch, size_t scratch_len);
+
+/* 8-bit gradient: the dilation less the erosion, held at 0: by an element whose origin cell is unset the erosion can be the greater.
+ * Buffers and answer are those of qik_open8; scratch afterwards holds the eroded picture. */
+uint32_t qik_gradient8(uint64_t w, uint64_t h, const uint8_t *source, size_t source_len, const uint8_t *element, size_t element_len,
+                       uint8_t *target, size_t target_len, uint8_t *scratch, size_t scratch_len);
+
 /* Hit-or-miss of a one-bit picture: a point is set when source eroded by hit has it and source's complement, within the frame, eroded by
  * miss has it. source: a one-bit picture, exactly. hit, miss: descriptors, not weighted, with no offset in common. target: room for the picture.
  * Answer: SIZE, SOURCE, PAD, SHAPE (of hit, then of miss), OVERLAP, ROOM in this order, or DONE with the picture in target. */

@@ -1,3 +1,4 @@
 pub mod Copies
 pub mod ReadBack
+pub mod InPlace
 pub mod Settled

@@ -1,11 +1,14 @@
 // The copy of a picture, as it is or turned over, whatever its padding: the padding of the copy is 0.
+// And the padding of a picture cleared where it stands.
 use picture::Depth;
 use picture::Face;
 ghost use mathlib.Core.Path.{_≡_};
+ghost use mathlib.Core.Bool.{false};
 ghost use Prim.Native.Nat.{_+_, _*_, _≤_, _<_};
 ghost use lib.ListN.{length};
 ghost use Rattle.basics.specs.Lists.{firsts};
 ghost use Rattle.picture.specs.Frame.{Holds};
+ghost use Rattle.picture.specs.Points.{valueAt};
 ghost use Rattle.picture.specs.Bytes.{faced, written};
 ghost use Rattle.copies.specs.Steps.Copy.{overOf, clearedByte, spareAt, clearedAt, clearedRows};
 
@@ -75,4 +78,38 @@ pub fn copy_picture(depth: Depth, face: Face, s: &[u8], t: &mut [u8], w: usize, 
     let u = picture::spare_bits(depth, w);
     let over = is_over(face);
     copy_rows(over, s, t, n, u, h);
+}
+
+// The last byte of a row of n, its u low bits to 0; the others stay.
+fn clear_last(t: &mut [u8], n: usize, u: usize)
+    requires { ⌜ (u < 8) × ((length (now t) ≡ n) × (1 ≤ n)) ⌝ }
+    ensures { λ _. ⌜ now (t .exit) ≡ firsts (clearedAt false (now (t .entry)) 0 n u) n ⌝ }
+{
+    let last = n - 1;
+    t[last] = cleared(false, t[last], u);
+}
+
+// h rows; what lies past them stays.
+fn clear_rows(t: &mut [u8], n: usize, u: usize, h: usize)
+    requires { ⌜ (u < 8) × ((1 ≤ n) × (h * n ≤ length (now t))) ⌝ }
+    ensures { λ _. ⌜ now (t .exit) ≡ clearedRows false (now (t .entry)) n u h (now (t .entry)) ⌝ }
+{
+    let mut y = 0;
+    while y < h {
+        let a = y * n;
+        let z = a + n;
+        clear_last(&mut t[a..z], n, u);
+        y += 1;
+    }
+}
+
+// The padding of the picture in t goes to 0: its points and the further bytes stay.
+pub fn clear_padding(depth: Depth, t: &mut [u8], w: usize, h: usize)
+    requires { ⌜ Holds depth (length (now t)) w h ⌝ }
+    ensures { λ _. ⌜ now (t .exit)
+        ≡ written depth (valueAt depth (now (t .entry)) w) w h (now (t .entry)) ⌝ }
+{
+    let n = picture::row_bytes(depth, w);
+    let u = picture::spare_bits(depth, w);
+    clear_rows(t, n, u, h);
 }

@@ -3,6 +3,7 @@ pub mod Numbered
 pub mod Demand1
 pub mod Demand2
 pub mod Sets
+pub mod Differences
 pub mod Sums
 pub mod ByNumber
 pub mod Checks

@@ -1,4 +1,4 @@
--- A call by one element, as the prover reads the contracts of crate flat:
+-- A call by one element, as the prover reads the contracts of crates flat and differences:
 -- its arguments, and its buffers before and after, by name.
 use Prim.Native.Nat.{ℕ, min}
 use mathlib.Core.List.{List}
@@ -56,7 +56,7 @@ call κs a e =
 abbrev pub testsOnce : Call → List Test
 testsOnce c = tests c (length (c .before))
 
--- of opening and closing, and their scratch before and after
+-- of opening, closing, top-hats and gradient, and their scratch before and after
 pub record Twice : Type 0 where
   pub to-target : Call
   pub before : List ℕ

@@ -14,6 +14,7 @@ pub mod Bridge
 pub mod Check
 pub mod Worked
 pub mod Mistakes
+pub mod TopHats
 pub mod Cells
 pub mod Overlap
 pub mod Walks

@@ -11,3 +11,4 @@ pub mod Demand
 pub mod Worked
 pub mod Mistakes
 pub mod Overlap
+pub mod TopHats

@@ -1,0 +1,119 @@
+-- Nothing is written before all is judged: a refusal returns with both buffers as they were.
+-- Where nothing is refused the picture is admitted and the element is the descriptor's (`known`),
+-- and `make` does the rest.
+use Rattle.answer.specs.Answer.{plain}
+use Rattle.answer.specs.Refuse.{refuse}
+use Rattle.answer.proofs.Lent.{kept-by, made-by}
+use Rattle.picture.specs.Points.{valueAt}
+use Rattle.element.specs.Descriptor.{wellMade}
+use Rattle.element.specs.Record.{elementOf}
+use Rattle.element.proofs.WellMade.{made-cells}
+use Rattle.judge.specs.declared.Padding.the-variants.{Judged}
+use Rattle.judge.specs.Tests.{Admitted, elementTests}
+use Rattle.judge.proofs.Admitted.{holds, element-answer, element-admitted}
+use Rattle.apply.proofs.Read.{fitting, element-is}
+use Rattle.differences.proofs.Made.{made-written, middle-written}
+use mathlib.Core.Bool.{true}
+use mathlib.Core.Path.{_≡_, sym, ap, _∙_}
+use native.Mathlib.Nat.{le-of-eq}
+use native.Mathlib.Omega.{arith}
+use borrow.Author.Needs.{needs}
+use Rattle.differences.proofs.run.Statement.{statement}
+use Rattle.differences.proofs.run.Tie as tie
+
+-- where nothing is refused
+abbrev entry : tie.Then1 → tie.Start
+entry c = c .before .before .before .before .before .before .before .before .before .before
+
+known : (c : tie.Then1) → let a = entry c .args in
+    Admitted Judged (a .depth) (a .w) (a .h) (a .source .now) 0 (c .before .before .before .lesser .result)
+    × (wellMade (a .element .now) ≡ true)
+known c =
+    let a = entry c .args in
+    element-admitted Judged (a .depth) (a .w) (a .h) (a .source .now) (wellMade (a .element .now)) _ _ _
+    (c .before .before .before .before .before .read-element .ensures .0)
+    (c .before .before .refusal .ensures)
+    (sym (c .before .is-done .ensures) ∙ c .if1 .taken)
+
+element-known : (c : tie.Then1)
+    → c .before .before .before .before .before .read-element .result .element
+    ≡ elementOf (entry c .args .element .now)
+element-known c =
+    let d = entry c .args .element .now in
+    element-is (wellMade d) d _ (c .before .before .before .before .before .read-element .ensures .1)
+    (known c .1)
+
+make-requires : tie.Need-make-requires
+make-requires c κs =
+    let p = c .before .before in
+    let a = entry p .args in
+    let k = known p .0 in
+    let l = p .before .before .before .lesser .ensures in
+    let d = a .element .now in (
+      holds Judged (a .depth) (a .w) (a .h) (a .source .now) _ (k .sized) (le-of-eq (sym (k .whole))),
+      (
+        holds Judged (a .depth) (a .w) (a .h) (a .source .now) _ (k .sized) (omega (arith, k .roomy)),
+        (
+          holds Judged (a .depth) (a .w) (a .h) (a .source .now) _ (k .sized) (omega (arith, k .roomy)),
+          fitting d (made-cells d (known p .1)) _ (element-known p),
+        ),
+      ),
+    )
+
+returns : tie.Need-returns
+returns c =
+    let p = c .before .before .before .before .before .before .before in
+    let a = entry p .args in
+    let d = a .element .now in
+    let m = made-cells d (known p .1) in
+    let e = element-answer Judged (a .depth) (a .w) (a .h) (a .source .now) (wellMade d) _ _ _
+    (p .before .before .before .before .before .read-element .ensures .0)
+    (p .before .before .refusal .ensures)
+    ∙ ap (λ n.
+    refuse (elementTests Judged (a .depth) (a .w) (a .h) (a .source .now) (wellMade d) n) (plain 0))
+    (p .before .before .before .lesser .ensures) in
+    let done = sym (p .before .is-done .ensures) ∙ p .if1 .taken in
+    let A = valueAt (a .depth) (a .source .now) (a .w) in
+    let r = c .before .before .before .before .make .ensures in (
+      e,
+      (
+        made-by (a .target .now) _ _ _ e _ done
+            (made-written d m
+            (λ i. let l =
+            p .before .before .before .before .before .before .before .before .shared-slice-known2 .given i in
+            omega arith)
+            (a .depth) (a .w) (a .h) A (a .which) _ (element-known p) (a .target .now) _ (r .0)),
+        made-by (a .scratch .now) _ _ _ e _ done
+            (middle-written d m
+            (λ i. let l =
+            p .before .before .before .before .before .before .before .before .shared-slice-known2 .given i in
+            omega arith)
+            (a .depth) (a .w) (a .h) A (a .which) _ (element-known p) (a .scratch .now) _ (r .1)),
+      ),
+    )
+
+returns-2 : tie.Need-returns-2
+returns-2 c =
+    let a = c .before .before .before .before .before .before .before .before .before .before .args in
+    let e = element-answer Judged (a .depth) (a .w) (a .h) (a .source .now) (wellMade (a .element .now)) _ _ _
+    (c .before .before .before .before .before .read-element .ensures .0)
+    (c .before .before .refusal .ensures)
+    ∙ ap (λ n. refuse (elementTests Judged (a .depth) (a .w) (a .h)
+    (a .source .now) (wellMade (a .element .now)) n) (plain 0))
+    (c .before .before .before .lesser .ensures) in
+    let q = sym (c .before .is-done .ensures) ∙ c .if1 .left in
+    (e, (kept-by (a .target .now) _ _ _ e q, kept-by (a .scratch .now) _ _ _ e q))
+
+pub run-spec : {M : Type 1} → statement M
+run-spec =
+    tie.close
+    (tie.spec
+    (λ c κs. search needs)
+    (λ c κs. search needs)
+    (λ c κs. search needs)
+    (λ c κs. search needs)
+    make-requires
+    (λ c. search needs)
+    (λ c. search needs)
+    returns
+    returns-2)
