@@ -62,11 +62,10 @@ static void turn_over(struct picture *a) {
         for (int x = 0; x < a->w; x++) *at(a, x, y) = !*at(a, x, y);
 }
 
-/* 1, 2, 3 of the table, or 0 */
+/* 1 and 2 of the table, or 0: what stands in the padding is free */
 static int source_refusal(int depth, uint64_t w, uint64_t h, struct lent source) {
     if (!sized(w, h)) return 1;
     if (source.len != picture_len(depth, w, h)) return 2;
-    if (depth == 1 && !padding_clear(source.at, (size_t)w, (size_t)h)) return 3;
     return 0;
 }
 
@@ -376,6 +375,7 @@ struct file_told own_ech_read(struct lent file, struct lent target) {
     unsigned w = f[6] + 256u * f[7], h = f[8] + 256u * f[9];
     struct lent body = {file.at + 10, file.len - 10};
     r.number = source_refusal(depth_of(f[5]), w, h, body);
+    if (!r.number && f[5] != 2 && !padding_clear(body.at, w, h)) r.number = 3;
     if (!r.number && target.len < body.len) r.number = 8;
     if (r.number) return r;
     struct picture *a = picture_from(depth_of(f[5]), w, h, body.at);

@@ -2,7 +2,7 @@
  *
  * Pictures. A frame has w pings (columns, 1 to 1,024) and h range bins (rows, 1 to 256).
  *   one-bit: each row takes (w + 7) / 8 bytes; the first ping is the highest bit of the row's first byte; the unused low bits of its last
- *            byte are padding and are 0.
+ *            byte are padding: whatever stands there in a source is ignored, and it is 0 in every target.
  *   8-bit:   w * h bytes, row after row, 0 is no echo.
  * A source has exactly the bytes of its picture. A target, a scratch or a work buffer has as many or more; its further bytes stay.
  *
@@ -30,7 +30,7 @@ enum qik_refusal {
     QIK_DONE = 0,
     QIK_SIZE = 1,    /* w or h outside its range */
     QIK_SOURCE = 2,  /* the source has not exactly the length that is needed */
-    QIK_PAD = 3,     /* a padding bit of a one-bit source is 1 */
+    QIK_PAD = 3,     /* a padding bit of an ECH file's one-bit body is 1: of qik_ech_read alone */
     QIK_SHAPE = 4,   /* a descriptor breaks a rule, or bytes follow the last link */
     QIK_OVERLAP = 5, /* hit and miss share an offset */
     QIK_CHAIN = 6,   /* the number of links is not 1 to 5, or a link is above 8 x 8 */
@@ -66,7 +66,7 @@ static inline uint32_t qik_read_h(uint64_t answer) { return (uint32_t)(answer >>
 
 /* One-bit erosion: a point of target is set when source is set at point + offset for every offset that stays in the frame.
  * source: a one-bit picture, exactly. element: a descriptor, not weighted. target: room for the picture.
- * Answer: SIZE, SOURCE, PAD, SHAPE, ROOM in this order, or DONE with the picture in target. */
+ * Answer: SIZE, SOURCE, SHAPE, ROOM in this order, or DONE with the picture in target. */
 uint32_t qik_erode1(uint64_t w, uint64_t h, const uint8_t *source, size_t source_len, const uint8_t *element, size_t element_len,
                     uint8_t *target, size_t target_len);
 
@@ -88,7 +88,7 @@ uint32_t qik_dilate8(uint64_t w, uint64_t h, const uint8_t *source, size_t sourc
 
 /* One-bit opening: erosion, then dilation by the same element. What is narrower than the element goes.
  * Buffers as for qik_erode1; scratch: room for the picture too, and afterwards it holds the eroded picture.
- * Answer: SIZE, SOURCE, PAD, SHAPE, ROOM in this order, or DONE with the picture in target. */
+ * Answer: SIZE, SOURCE, SHAPE, ROOM in this order, or DONE with the picture in target. */
 uint32_t qik_open1(uint64_t w, uint64_t h, const uint8_t *source, size_t source_len, const uint8_t *element, size_t element_len,
                    uint8_t *target, size_t target_len, uint8_t *scratch, size_t scratch_len);
 
@@ -140,7 +140,7 @@ uint32_t qik_gradient8(uint64_t w, uint64_t h, const uint8_t *source, size_t sou
 
 /* Hit-or-miss of a one-bit picture: a point is set when source eroded by hit has it and source's complement, within the frame, eroded by
  * miss has it. source: a one-bit picture, exactly. hit, miss: descriptors, not weighted, with no offset in common. target: room for the picture.
- * Answer: SIZE, SOURCE, PAD, SHAPE (of hit, then of miss), OVERLAP, ROOM in this order, or DONE with the picture in target. */
+ * Answer: SIZE, SOURCE, SHAPE (of hit, then of miss), OVERLAP, ROOM in this order, or DONE with the picture in target. */
 uint32_t qik_hit_or_miss(uint64_t w, uint64_t h, const uint8_t *source, size_t source_len, const uint8_t *hit, size_t hit_len,
                          const uint8_t *miss, size_t miss_len, uint8_t *target, size_t target_len);
 
@@ -175,7 +175,7 @@ uint32_t qik_check_chain(const uint8_t *element, size_t element_len, uint64_t li
 
 /* One-bit erosion by a chain: erodes by each link in turn, which gives the erosion by the element.
  * source: a one-bit picture, exactly. element, links, chain: as for qik_check_chain. first, second: room for the picture each, even for one link.
- * Answer, packed as that of qik_check_chain: SIZE, SOURCE, PAD, then what the check refuses, ROOM, or DONE. Results 1, 3 and 5 are in
+ * Answer, packed as that of qik_check_chain: SIZE, SOURCE, then what the check refuses, ROOM, or DONE. Results 1, 3 and 5 are in
  * first, 2 and 4 in second: the last is in first where links is odd and in second where it is even. With one link second is untouched. */
 uint32_t qik_chain_erode1(uint64_t w, uint64_t h, const uint8_t *source, size_t source_len, const uint8_t *element, size_t element_len,
                           uint64_t links, const uint8_t *chain, size_t chain_len, uint8_t *first, size_t first_len, uint8_t *second,
@@ -186,7 +186,7 @@ uint32_t qik_chain_dilate1(uint64_t w, uint64_t h, const uint8_t *source, size_t
                            uint64_t links, const uint8_t *chain, size_t chain_len, uint8_t *first, size_t first_len, uint8_t *second,
                            size_t second_len);
 
-/* 8-bit erosion by a chain. Buffers and answer are those of qik_chain_erode1, but for source, an 8-bit picture, and PAD, which is not given. */
+/* 8-bit erosion by a chain. Buffers and answer are those of qik_chain_erode1, but for source, an 8-bit picture. */
 uint32_t qik_chain_erode8(uint64_t w, uint64_t h, const uint8_t *source, size_t source_len, const uint8_t *element, size_t element_len,
                           uint64_t links, const uint8_t *chain, size_t chain_len, uint8_t *first, size_t first_len, uint8_t *second,
                           size_t second_len);
@@ -204,7 +204,7 @@ uint64_t qik_ech_read(const uint8_t *file, size_t file_len, uint8_t *target, siz
 
 /* Writes an ECH file, version 1, of kind 1 (one-bit), 2 (8-bit) or 3 (one-bit, stored turned over).
  * source: the picture, exactly; of kind 3 the ordinary one-bit picture. target: room for 10 bytes and the picture.
- * Answer: FORM for another kind, then SIZE, SOURCE, PAD, ROOM in this order, or DONE with the file in target. */
+ * Answer: FORM for another kind, then SIZE, SOURCE, ROOM in this order, or DONE with the file in target. */
 uint32_t qik_ech_write(uint64_t kind, uint64_t w, uint64_t h, const uint8_t *source, size_t source_len, uint8_t *target,
                        size_t target_len);
 
@@ -219,7 +219,7 @@ uint64_t qik_pbm_read(const uint8_t *file, size_t file_len, uint8_t *target, siz
 uint64_t qik_pgm_read(const uint8_t *file, size_t file_len, uint8_t *target, size_t target_len);
 
 /* Writes a raw PBM file: P4, a line feed, w, a space, h, a line feed, the picture. source: a one-bit picture, exactly. target: room for the file, at most
- * 12 bytes and the picture. Answer: SIZE, SOURCE, PAD, ROOM in this order, or DONE with the file in target. */
+ * 12 bytes and the picture. Answer: SIZE, SOURCE, ROOM in this order, or DONE with the file in target. */
 uint32_t qik_pbm_write(uint64_t w, uint64_t h, const uint8_t *source, size_t source_len, uint8_t *target, size_t target_len);
 
 /* Writes a raw PGM file: P5, a line feed, w, a space, h, a line feed, 255, a line feed, the picture. source: an 8-bit picture, exactly. target: room for the

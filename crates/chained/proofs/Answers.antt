@@ -14,7 +14,7 @@ use Rattle.answer.specs.Lent.{ifDone, unlessRefused}
 use Rattle.answer.proofs.Order.{NoneOf, passed-all, none-refuses}
 use Rattle.answer.proofs.Lent.{made-by}
 use Rattle.picture.specs.declared.Depth.{Depth}
-use Rattle.judge.specs.declared.Padding.the-variants.{Judged}
+use Rattle.judge.specs.declared.Padding.the-variants.{Free}
 use Rattle.judge.specs.Tests.{pictureTests, roomTests, Admitted}
 use Rattle.judge.proofs.Admitted.{admitted, holds}
 use Rattle.morphology.specs.Chain.{mostLinks}
@@ -30,7 +30,7 @@ use Rattle.chained.proofs.Buffers.{first-alike, second-alike}
 -- what is known of what a run was handed where it is done
 pub record Passed (depth : Depth) (w h : ℕ) (source element : List ℕ)
     (links : ℕ) (chain : List ℕ) (room : ℕ) : Type 0 where
-  pub picture : Admitted Judged depth w h source 0 room
+  pub picture : Admitted Free depth w h source 0 room
   pub accepted : isDone (checked element links chain) ≡ true
   pub made : NoneOf (checkTests element links chain)
 
@@ -39,7 +39,7 @@ pub passed : (depth : Depth) (w h : ℕ) (source element : List ℕ) (links : �
     → Passed depth w h source element links chain room
 unfolding runAnswer checked
 passed depth w h source element links chain room done =
-    let p = admitted Judged depth w h source (checked element links chain) 0 room done in
+    let p = admitted Free depth w h source (checked element links chain) 0 room done in
     record {
       picture = p .0;
       accepted = p .1;
@@ -50,14 +50,14 @@ module _ (depth : Depth) (grows : Bool) (w h : ℕ)
     (source element : List ℕ) (links : ℕ) (chain first second : List ℕ)
     (read : Links) (no : Answer) (room : ℕ) (ec : ReadAs (checked element links chain) links chain read)
     (er : room ≡ min (length first) (length second))
-    (en : told no ≡ refuse (pictureTests Judged depth w h source)
+    (en : told no ≡ refuse (pictureTests Free depth w h source)
     (ifDone (told (read .answer)) (refuse (roomTests depth w h 0 room) (plain 0)))) where
   pub answer-is : told no
       ≡ runAnswer depth w h source element links chain (min (length first) (length second))
   unfolding runAnswer
   answer-is =
       en
-      ∙ ap₂ (λ t r. refuse (pictureTests Judged depth w h source)
+      ∙ ap₂ (λ t r. refuse (pictureTests Free depth w h source)
       (ifDone t (refuse (roomTests depth w h 0 r) (plain 0))))
       (ec .answered) er
 
@@ -84,9 +84,9 @@ module _ (depth : Depth) (grows : Bool) (w h : ℕ)
         record {
           few = few;
           fitting = fitting-here depth w h source chain (read .all) links bytes links-made elements-are;
-          source-holds = holds Judged depth w h source (length source) (p .sized) (omega (arith, p .whole));
-          first-holds = holds Judged depth w h source (length first) (p .sized) (omega (arith, p .roomy));
-          second-holds = holds Judged depth w h source (length second) (p .sized) (omega (arith, p .roomy));
+          source-holds = holds Free depth w h source (length source) (p .sized) (omega (arith, p .whole));
+          first-holds = holds Free depth w h source (length first) (p .sized) (omega (arith, p .roomy));
+          second-holds = holds Free depth w h source (length second) (p .sized) (omega (arith, p .roomy));
         }
 
     -- the buffers that the loop has left

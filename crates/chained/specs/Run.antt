@@ -12,15 +12,15 @@ use Rattle.picture.specs.Frame.{top, frame}
 use Rattle.picture.specs.Points.{valueAt}
 use Rattle.picture.specs.Bytes.{Picture, written}
 use Rattle.morphology.specs.Chain.{erodeAll, dilateAll}
-use Rattle.judge.specs.declared.Padding.the-variants.{Judged}
+use Rattle.judge.specs.declared.Padding.the-variants.{Free}
 use Rattle.judge.specs.Tests.{pictureTests, roomTests}
 use Rattle.chain.specs.Reading.{linksIn, checked}
 
--- refused where the check refuses: SIZE, SOURCE and PAD before it,
+-- refused where the check refuses: SIZE and SOURCE before it,
 -- and after it ROOM, of the shorter of the two buffers
 unfoldable pub runAnswer : Depth → ℕ → ℕ → List ℕ → List ℕ → ℕ → List ℕ → ℕ → Told
 runAnswer depth w h source element k chain room =
-    refuse (pictureTests Judged depth w h source)
+    refuse (pictureTests Free depth w h source)
     (ifDone (checked element k chain) (refuse (roomTests depth w h 0 room) (plain 0)))
 
 -- the results, by their number: each of the first i links in order, all as erosion or all as dilation

@@ -117,7 +117,7 @@ fn run(
     let check = read.answer;
     let all = read.all;
     let room = basics::lesser(first.len(), second.len());
-    let no = judge::refusal(Padding::Judged, depth, w, h, source, check, 0, room);
+    let no = judge::refusal(Padding::Free, depth, w, h, source, check, 0, room);
     if answer::is_done(no) {
         each_link(depth, way, w, h, source, all, links, first, second);
         return no;

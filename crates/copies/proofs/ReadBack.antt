@@ -92,13 +92,18 @@ pub turned-twice : (face : Face) (most v : ℕ) → v ≤ most → turned face m
 turned-twice AsIs most v h = refl
 turned-twice TurnedOver most v h = omega arith
 
-pub faced-twice : (depth : Depth) (face : Face) (s : List ℕ) → ((i : ℕ) → getD s i 0 < 256)
-    → (w h : ℕ) → 1 ≤ w → paddingClear depth s w h ≡ true → length s ≡ pictureBytes depth w h
-    → bytesOf depth (faced depth face (bytesOf depth (faced depth face s w) w h) w) w h ≡ s
+pub faced-again : (depth : Depth) (face : Face) (s : List ℕ) → ((i : ℕ) → getD s i 0 < 256) → (w h : ℕ)
+    → bytesOf depth (faced depth face (bytesOf depth (faced depth face s w) w h) w) w h
+    ≡ bytesOf depth (λ x y. valueAt depth s w x y) w h
 unfolding faced
-faced-twice depth face s bytes w h some clear whole =
+faced-again depth face s bytes w h =
     bytes-same depth _ (λ x y. valueAt depth s w x y) w h
     (λ x y hx hy. ap (turned face (top depth))
     (bytes-value depth (faced depth face s w) w h (λ x y k l. faced-small depth face s bytes w x y) x y hx hy)
     ∙ turned-twice face (top depth) (valueAt depth s w x y) (value-small depth s bytes w x y))
-    ∙ bytes-back depth s bytes w h some clear whole
+
+pub faced-twice : (depth : Depth) (face : Face) (s : List ℕ) → ((i : ℕ) → getD s i 0 < 256)
+    → (w h : ℕ) → 1 ≤ w → paddingClear depth s w h ≡ true → length s ≡ pictureBytes depth w h
+    → bytesOf depth (faced depth face (bytesOf depth (faced depth face s w) w h) w) w h ≡ s
+faced-twice depth face s bytes w h some clear whole =
+    faced-again depth face s bytes w h ∙ bytes-back depth s bytes w h some clear whole

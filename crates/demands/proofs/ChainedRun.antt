@@ -18,7 +18,7 @@ use Rattle.element.specs.Descriptor.{shapeIn}
 use Rattle.morphology.specs.Operations.{erode, dilate}
 use Rattle.morphology.specs.Chain.{First}
 use Rattle.morphology.specs.Demand.{Differs}
-use Rattle.judge.specs.declared.Padding.the-variants.{Judged}
+use Rattle.judge.specs.declared.Padding.the-variants.{Free}
 use Rattle.judge.specs.Tests.{pictureTests}
 use Rattle.chain.specs.Reading.{linksIn}
 use Rattle.finder.specs.Finder.{foundAt}
@@ -48,7 +48,7 @@ pub chained-erode-split : Every 5 erode-kinds.ps erode-kinds.r erode-reads.Learn
     (λ κs a r e. let c = runCall κs a e in
     (strength : ℕ) → Strength (c .depth) strength → (o : Offset)
     → (told r ≡ splitAt o)
-    ↔ (NoneHolds (pictureTests Judged (c .depth) (c .w) (c .h) (c .source))
+    ↔ (NoneHolds (pictureTests Free (c .depth) (c .w) (c .h) (c .source))
     × (WellMade (c .element) (c .links) (c .chain)
     × First (Differs strength (shapeIn (c .element)) (linksIn (c .links) (c .chain))) o)))
 chained-erode-split κs a r e p strength heard o =
@@ -80,7 +80,7 @@ pub chained-dilate-split : Every 5 dilate-kinds.ps dilate-kinds.r dilate-reads.L
     (λ κs a r e. let c = runCall κs a e in
     (strength : ℕ) → Strength (c .depth) strength → (o : Offset)
     → (told r ≡ splitAt o)
-    ↔ (NoneHolds (pictureTests Judged (c .depth) (c .w) (c .h) (c .source))
+    ↔ (NoneHolds (pictureTests Free (c .depth) (c .w) (c .h) (c .source))
     × (WellMade (c .element) (c .links) (c .chain)
     × First (Differs strength (shapeIn (c .element)) (linksIn (c .links) (c .chain))) o)))
 chained-dilate-split κs a r e p strength heard o =

@@ -1,7 +1,7 @@
 -- Demand 2 of files: a file written and read gives the same picture;
 -- an accepted file read and written gives the same bytes. Of every outcome
 -- that the contracts of `write_ech` and `read_ech` allow. The bytes of a slice are below 256.
-use Prim.Native.Nat.{ℕ, _+_}
+use Prim.Native.Nat.{ℕ, _+_, _≤_, _<_}
 use mathlib.Core.Path.{_≡_, sym, ap, ap₂, subst, _∙_}
 use mathlib.Core.Bool.{true, cond}
 use mathlib.Core.List.{List, _++_}
@@ -9,7 +9,17 @@ use lib.ListN.{length, take, drop, length-append}
 use lib.Seq.{take-at}
 use Rattle.answer.specs.Answer.{isDone}
 use Rattle.answer.specs.Lent.{unlessRefused}
-use Rattle.picture.proofs.Bytes.{bytes-long}
+use Rattle.basics.specs.Bytes.{Bytes}
+use Rattle.picture.specs.declared.Depth.{Depth}
+use Rattle.picture.specs.declared.Depth.the-variants.{OneBit, EightBit}
+use Rattle.picture.specs.Frame.{top}
+use Rattle.picture.specs.Points.{valueAt}
+use Rattle.picture.specs.Bytes.{written, paddingClear}
+use Rattle.picture.proofs.Sizes.{sized-tells}
+use Rattle.picture.proofs.Points.{written-value}
+use Rattle.picture.proofs.Padding.{written-clear, eight-clear}
+use Rattle.picture.proofs.Bytes.{bytes-long, value-small}
+use Rattle.ech.proofs.Judging.{write-admitted}
 use Rattle.ech.specs.declared.Header.{Header}
 use Rattle.ech.specs.File.{depthOf, kindOf, pingsOf, binsOf, headOf, fileOf}
 use Rattle.ech.specs.ReadWrite.{GivenBack, readAnswer, readTarget, writeAnswer, writeTarget}
@@ -33,18 +43,44 @@ file-is kind w h s t after d e =
     (e ∙ ap (λ b. cond b (fileOf kind w h s ++ drop (fileLength kind w h) t) t) d)
     ∙ take-at (fileOf kind w h s) (drop (fileLength kind w h) t) (fileLength kind w h) (file-long kind w h s)
 
-back-is : (c : WriteCall) (d : ReadCall) (back : Header) (f : List ℕ) → f ≡ d .file
+-- the picture in the bytes of a source is bounded; written, it is read back, and its padding is 0
+module _ (kind w h : ℕ) (s u : List ℕ) (bytes : Bytes s) (some : 1 ≤ w) where
+  small : (x y : ℕ) → x < w → y < h → valueAt (depthOf kind) s w x y ≤ top (depthOf kind)
+  small x y hx hy = value-small (depthOf kind) s bytes w x y
+
+  read-points : (x y : ℕ) → x < w → y < h
+      → valueAt (depthOf kind) (written (depthOf kind) (valueAt (depthOf kind) s w) w h u) w x y
+      ≡ valueAt (depthOf kind) s w x y
+  read-points = written-value (depthOf kind) (valueAt (depthOf kind) s w) w h u small
+
+  read-padding : paddingClear (depthOf kind)
+      (written (depthOf kind) (valueAt (depthOf kind) s w) w h u) w h ≡ true
+  read-padding = by (depthOf kind) (λ x y hx hy. value-small (depthOf kind) s bytes w x y)
+    where
+      by : (depth : Depth) → ((x y : ℕ) → x < w → y < h → valueAt depth s w x y ≤ top depth)
+          → paddingClear depth (written depth (valueAt depth s w) w h u) w h ≡ true
+      by OneBit l = written-clear (valueAt OneBit s w) w h u some l
+      by EightBit l = eight-clear _ w h
+
+back-is : (c : WriteCall) (d : ReadCall) (back : Header) (f : List ℕ) → Bytes (c .source) → 1 ≤ c .w
+    → f ≡ d .file
     → SamePicture (c .kind) (c .w) (c .h) (c .source) f (d .before)
     → GivenBack (readAnswer (d .file) (length (d .before)))
     (kindOf (d .file)) (pingsOf (d .file)) (binsOf (d .file)) back
     → d .after ≡ readTarget (d .file) (d .before) → ReadBack c d back
-back-is c d back f q s g t =
+back-is c d back f below some q s g t =
     let same = subst (λ (l : List ℕ). SamePicture (c .kind) (c .w) (c .h) (c .source) l (d .before)) q s in
     record {
       done = ap isDone (g .answer) ∙ same .done;
       kind = g .kind ∙ ap (λ b. cond b (kindOf (d .file)) 0) (same .done) ∙ same .kind-same;
       pings = g .pings ∙ ap (λ b. cond b (pingsOf (d .file)) 0) (same .done) ∙ same .pings-same;
       bins = g .bins ∙ ap (λ b. cond b (binsOf (d .file)) 0) (same .done) ∙ same .bins-same;
+      points = λ p hx hy.
+          ap (λ l. valueAt (depthOf (c .kind)) l (c .w) (p .ping .0) (p .bin .0)) (t ∙ same .bytes-same)
+          ∙ read-points (c .kind) (c .w) (c .h) (c .source) (d .before) below some
+          (p .ping .0) (p .bin .0) hx hy;
+      padding = ap (λ l. paddingClear (depthOf (c .kind)) l (c .w) (c .h)) (t ∙ same .bytes-same)
+          ∙ read-padding (c .kind) (c .w) (c .h) (c .source) (d .before) below some;
       bytes = t ∙ same .bytes-same;
     }
 
@@ -53,7 +89,9 @@ written-and-read κs a x e learnt κs' a' x' e' learnt' bytes done file room =
     let c = writeCall κs a e in
     let written : isDone (writeAnswer (c .kind) (c .w) (c .h) (c .source) (c .before)) ≡ true =
     sym (ap isDone (learnt .0)) ∙ done in
-    back-is c (readCall κs' a' e') x' (fileOf (c .kind) (c .w) (c .h) (c .source))
+    back-is c (readCall κs' a' e') x' (fileOf (c .kind) (c .w) (c .h) (c .source)) bytes
+    (sized-tells (c .w) (c .h)
+    (write-admitted (c .kind) (c .w) (c .h) (c .source) (c .before) written .1 .sized) .some-pings)
     (sym (file ∙ file-is (c .kind) (c .w) (c .h) (c .source) (c .before) (c .after) written (learnt .1)))
     (written-then-read (c .kind) (c .w) (c .h) (c .source) (c .before)
     (readCall κs' a' e' .before) bytes written room) (learnt' .0) (learnt' .1)

@@ -14,3 +14,5 @@ pub mod Packing
 pub mod Jobs
 pub mod Files
 pub mod Netpbm
+pub mod Alike
+pub mod PointsAlone

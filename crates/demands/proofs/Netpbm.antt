@@ -21,7 +21,7 @@ use Rattle.picture.specs.Points.{valueAt}
 use Rattle.picture.specs.Bytes.{written}
 use Rattle.picture.proofs.Bytes.{value-small}
 use Rattle.picture.proofs.Points.{written-value}
-use Rattle.judge.specs.declared.Padding.the-variants.{Judged, Free}
+use Rattle.judge.specs.declared.Padding.the-variants.{Free}
 use Rattle.judge.proofs.Bodies.{body-numbered}
 use Rattle.netpbm.specs.declared.Header.{Header}
 use Rattle.netpbm.specs.File.{pingsOf, binsOf, rasterOf, headOf, fileOf}
@@ -80,7 +80,7 @@ module _ (depth : Depth) (d : PnmRead) (r : Header) (p : ReadPromise depth d r) 
 module _ (depth : Depth) (c : PnmWrite) (x : Answer) (p : WritePromise depth c x) where
   write-numbered : Numbered (testsPnmWrite depth c)
   write-numbered =
-      body-numbered Judged depth (c .w) (c .h) (c .source) (length (headOf depth (c .w) (c .h)))
+      body-numbered Free depth (c .w) (c .h) (c .source) (length (headOf depth (c .w) (c .h)))
       (length (c .before))
 
   write-exactly : Exactly (testsPnmWrite depth c) (told x)

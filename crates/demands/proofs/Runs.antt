@@ -21,7 +21,7 @@ use Rattle.picture.specs.declared.Depth.{Depth}
 use Rattle.picture.specs.declared.Depth.the-variants.{OneBit}
 use Rattle.picture.specs.Frame.{top, sizedFrame, pictureBytes, frame}
 use Rattle.picture.specs.Points.{valueAt}
-use Rattle.picture.specs.Bytes.{Picture, bytesOf, written, paddingClear}
+use Rattle.picture.specs.Bytes.{Picture, bytesOf, written}
 use Rattle.picture.proofs.Bytes.{bytes-long, alone}
 use Rattle.picture.proofs.Shown.{written-shown}
 use Rattle.element.specs.Shape.{Offset}
@@ -35,7 +35,7 @@ use Rattle.morphology.specs.Check.{checkOf}
 use Rattle.rows.specs.Steps.Ways.{sweptBy}
 use Rattle.apply.proofs.Twice.{bit-value}
 use Rattle.faults.specs.Verdicts.{answerOf}
-use Rattle.judge.specs.declared.Padding.the-variants.{Judged}
+use Rattle.judge.specs.declared.Padding.the-variants.{Free}
 use Rattle.judge.specs.Tests.{pictureTests, roomTests}
 use Rattle.judge.proofs.Admitted.{picture-numbered}
 use Rattle.chain.specs.Reading.{counted, chainTests, checkTests, linksIn, checked}
@@ -60,7 +60,7 @@ use Rattle.morphology.proofs.Verdicts.{some-top, accepted-dilated, accepted-ero
 
 module _ (depth : Depth) (w h : ℕ) (source element : List ℕ) (k : ℕ) (chain : List ℕ) (room : ℕ) where
   abbrev S : List Test
-  S = pictureTests Judged depth w h source
+  S = pictureTests Free depth w h source
 
   abbrev C : List Test
   C = splitTests element k chain
@@ -70,7 +70,7 @@ module _ (depth : Depth) (w h : ℕ) (source element : List ℕ) (k : ℕ) (chai
 
   tests-numbered : Numbered (runTests depth w h source element k chain room)
   tests-numbered =
-      picture-numbered Judged depth w h source (C ++ R)
+      picture-numbered Free depth w h source (C ++ R)
       (both-numbered C R (split-numbered element k chain) (lit≤ tt, tt))
 
   numbers : bare (runAnswer depth w h source element k chain room)
@@ -124,12 +124,11 @@ module _ (depth : Depth) (w h : ℕ) (source element : List ℕ) (k : ℕ) (chai
   unfolding plain
   other n s q = s (ap (λ (t : Told). t .number) q)
 
-  after-source : (a b c : Bool) (after : Told) → refuse ((a, 1) ∷ (b, 2) ∷ (c, 3) ∷ []) after ≡ splitAt e
-      → NoneHolds ((a, 1) ∷ (b, 2) ∷ (c, 3) ∷ []) × (after ≡ splitAt e)
-  after-source true b c after q = absurd (other 1 (λ z. omega arith) q)
-  after-source false true c after q = absurd (other 2 (λ z. omega arith) q)
-  after-source false false true after q = absurd (other 3 (λ z. omega arith) q)
-  after-source false false false after q = (next (next (next end)), q)
+  after-source : (a b : Bool) (after : Told) → refuse ((a, 1) ∷ (b, 2) ∷ []) after ≡ splitAt e
+      → NoneHolds ((a, 1) ∷ (b, 2) ∷ []) × (after ≡ splitAt e)
+  after-source true b after q = absurd (other 1 (λ z. omega arith) q)
+  after-source false true after q = absurd (other 2 (λ z. omega arith) q)
+  after-source false false after q = (next (next end), q)
 
   not-room : (b : Bool) → refuse ((b, 8) ∷ []) (plain 0) ≡ splitAt e → ⊥
   not-room true q = other 8 (λ z. omega arith) q
@@ -137,7 +136,7 @@ module _ (depth : Depth) (w h : ℕ) (source element : List ℕ) (k : ℕ) (chai
 
   pub run-split : (strength : ℕ) → Strength depth strength
       → (told r ≡ splitAt e)
-      ↔ (NoneHolds (pictureTests Judged depth w h source) × first-difference strength)
+      ↔ (NoneHolds (pictureTests Free depth w h source) × first-difference strength)
   unfolding runAnswer checked
   run-split strength heard = (there, back)
     where
@@ -150,14 +149,14 @@ module _ (depth : Depth) (w h : ℕ) (source element : List ℕ) (k : ℕ) (chai
       by false d q = q
 
       there : told r ≡ splitAt e
-          → NoneHolds (pictureTests Judged depth w h source) × first-difference strength
+          → NoneHolds (pictureTests Free depth w h source) × first-difference strength
       there t =
           let s = after-source (not (sizedFrame w h)) (not (eqb (length source) (pictureBytes depth w h)))
-          (not (paddingClear depth source w h)) (ifDone (checked element k chain) Y) (sym p ∙ t) in
+          (ifDone (checked element k chain) Y) (sym p ∙ t) in
           let c = by (isDone (checked element k chain)) refl (s .1) in
           (s .0, split-is-first element chain k r (t ∙ sym c) depth strength heard e .0 t)
 
-      back : NoneHolds (pictureTests Judged depth w h source) × first-difference strength
+      back : NoneHolds (pictureTests Free depth w h source) × first-difference strength
           → told r ≡ splitAt e
       back f =
           let v = answerOf (checkOf (shapeIn element) (linksIn k chain)) in

@@ -10,7 +10,7 @@ use Rattle.element.specs.Shape.{Offset}
 use Rattle.element.specs.Descriptor.{shapeIn}
 use Rattle.morphology.specs.Check.{checkOf}
 use Rattle.morphology.specs.Worked.{takenBy}
-use Rattle.judge.specs.declared.Padding.the-variants.{Judged}
+use Rattle.judge.specs.declared.Padding.the-variants.{Free}
 use Rattle.judge.specs.Tests.{pictureTests, roomTests}
 use Rattle.chain.specs.Reading.{checkTests, linksIn}
 
@@ -32,7 +32,7 @@ abbrev pub splitTests : List ℕ → ℕ → List ℕ → List Test
 splitTests element k chain =
     checkTests element k chain ++ ((not (takenBy (checkOf (shapeIn element) (linksIn k chain))), 7) ∷ [])
 
--- the tests of a chained run, in document 01's order: 1, 2, 3, those of the check, ROOM
+-- the tests of a chained run, in document 01's order: 1, 2, those of the check, ROOM
 abbrev pub runTests : Depth → ℕ → ℕ → List ℕ → List ℕ → ℕ → List ℕ → ℕ → List Test
 runTests depth w h source element k chain room =
-    pictureTests Judged depth w h source ++ (splitTests element k chain ++ roomTests depth w h 0 room)
+    pictureTests Free depth w h source ++ (splitTests element k chain ++ roomTests depth w h 0 room)

@@ -1,14 +1,17 @@
 -- Demand 2 of files: a file written and read gives the same picture;
 -- an accepted file read and written gives the same bytes. The bytes of a slice are below 256.
-use Prim.Native.Nat.{ℕ, _+_, _≤_}
+use Prim.Native.Nat.{ℕ, _+_, _≤_, _<_}
 use mathlib.Core.Path.{_≡_}
 use mathlib.Core.Bool.{true}
-use mathlib.Core.List.{_++_}
+use mathlib.Core.List.{List, _++_}
 use lib.ListN.{length, take, drop}
 use Rattle.basics.specs.Bytes.{Bytes}
 use Rattle.answer.specs.declared.Answer.{Answer}
 use Rattle.answer.specs.Answer.{told, isDone}
+use Rattle.picture.specs.declared.Point.{Point}
 use Rattle.picture.specs.Frame.{pictureBytes}
+use Rattle.picture.specs.Points.{valueAt}
+use Rattle.picture.specs.Bytes.{written, paddingClear}
 use Rattle.ech.specs.declared.Header.{Header}
 use Rattle.ech.specs.File.{headBytes, depthOf}
 use Rattle.ech.proofs.write_ech.Kinds as write-kinds
@@ -25,15 +28,23 @@ pictureLength kind w h = pictureBytes (depthOf kind) w h
 abbrev pub fileLength : ℕ → ℕ → ℕ → ℕ
 fileLength kind w h = headBytes + pictureLength kind w h
 
+-- the value at the point p of a picture of W pings that is kept as that kind
+abbrev pub pointOf : ℕ → ℕ → List ℕ → Point → ℕ
+pointOf kind w bytes p = valueAt (depthOf kind) bytes w (p .ping .0) (p .bin .0)
+
 -- ---- written, then read
--- what is read of the file that c wrote: done, the same kind and size,
--- and the same bytes of the picture; the further bytes of the target stay
+-- what is read of the file that c wrote: done, the same kind and size, the same value at each point,
+-- the padding 0; as one equation of the bytes, whose further ones stay
 pub record ReadBack (c : WriteCall) (d : ReadCall) (back : Header) : Type 0 where
   pub done : isDone (told (back .answer)) ≡ true
   pub kind : back .kind ≡ c .kind
   pub pings : back .w ≡ c .w
   pub bins : back .h ≡ c .h
-  pub bytes : d .after ≡ c .source ++ drop (pictureLength (c .kind) (c .w) (c .h)) (d .before)
+  pub points : (p : Point) → p .ping .0 < c .w → p .bin .0 < c .h
+      → pointOf (c .kind) (c .w) (d .after) p ≡ pointOf (c .kind) (c .w) (c .source) p
+  pub padding : paddingClear (depthOf (c .kind)) (d .after) (c .w) (c .h) ≡ true
+  pub bytes : d .after
+      ≡ written (depthOf (c .kind)) (valueAt (depthOf (c .kind)) (c .source) (c .w)) (c .w) (c .h) (d .before)
 
 -- of a write that is done, and a read of its file's own bytes with room for the picture
 abbrev pub WrittenThenRead : Type 0

@@ -11,3 +11,4 @@ pub mod Files
 pub mod PnmCalls
 pub mod Netpbm
 pub mod Jobs
+pub mod PointsAlone

@@ -70,7 +70,7 @@ fn make(
     }
 }
 
-// Judged as an opening is, then made.
+// Free as an opening is, then made.
 fn run(
     which: Which,
     depth: Depth,
@@ -98,7 +98,7 @@ fn run(
     let shape = read.answer;
     let e = read.element;
     let room = basics::lesser(target.len(), scratch.len());
-    let no = judge::refusal(Padding::Judged, depth, w, h, source, shape, 0, room);
+    let no = judge::refusal(Padding::Free, depth, w, h, source, shape, 0, room);
     if answer::is_done(no) {
         make(which, depth, w, h, source, e, target, scratch);
         return no;

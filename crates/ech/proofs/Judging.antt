@@ -10,7 +10,7 @@ use lib.Dec.{leb, eqb}
 use lib.ListN.{length, getD}
 use Rattle.basics.proofs.Tests.{both}
 use Rattle.answer.specs.Answer.{isDone}
-use Rattle.judge.specs.declared.Padding.the-variants.{Judged}
+use Rattle.judge.specs.declared.Padding.the-variants.{Judged, Free}
 use Rattle.judge.specs.Tests.{Admitted}
 use Rattle.judge.proofs.Admitted.{staged}
 use Rattle.judge.proofs.Bodies.{body-admitted}
@@ -28,11 +28,11 @@ file-admitted f room e =
     (not-false _ (p .0), q)
 
 pub write-admitted : (kind w h : ℕ) (s t : List ℕ) → isDone (writeAnswer kind w h s t) ≡ true
-    → (knownKind kind ≡ true) × Admitted Judged (depthOf kind) w h s headBytes (length t)
+    → (knownKind kind ≡ true) × Admitted Free (depthOf kind) w h s headBytes (length t)
 unfolding writeAnswer
 write-admitted kind w h s t e =
     let p = staged (not (knownKind kind)) 9 _ (omega arith) e in
-    (not-false _ (p .0), body-admitted Judged (depthOf kind) w h s headBytes (length t) (p .1))
+    (not-false _ (p .0), body-admitted Free (depthOf kind) w h s headBytes (length t) (p .1))
 
 -- ---- the tests of a file's first bytes
 -- ten bytes and the three letters

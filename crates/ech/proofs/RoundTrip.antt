@@ -15,7 +15,7 @@ use Rattle.answer.specs.Answer.{plain, isDone}
 use Rattle.answer.specs.Refuse.{refuse}
 use Rattle.answer.specs.Lent.{unlessRefused}
 use Rattle.basics.specs.Bytes.{Bytes}
-use Rattle.judge.specs.declared.Padding.the-variants.{Judged}
+use Rattle.judge.specs.declared.Padding.the-variants.{Judged, Free}
 use Rattle.judge.specs.Tests.{bodyTests, Admitted}
 use Rattle.judge.proofs.Bodies.{body-passes}
 use Rattle.picture.specs.declared.Depth.{Depth}
@@ -23,7 +23,8 @@ use Rattle.picture.specs.Frame.{top, sizedFrame, pictureBytes}
 use Rattle.picture.specs.Bytes.{bytesOf, written, faced, paddingClear}
 use Rattle.picture.proofs.Sizes.{sized-tells}
 use Rattle.picture.proofs.Bytes.{bytes-long, bytes-clear, faced-small}
-use Rattle.copies.proofs.ReadBack.{faced-twice}
+use Rattle.picture.specs.Points.{valueAt}
+use Rattle.copies.proofs.ReadBack.{faced-again, faced-twice}
 use Rattle.ech.specs.File.{headBytes, knownKind, kindOf, pingsOf, binsOf}
 use Rattle.ech.specs.File.{bodyOf, depthOf, faceOf, formed, headOf, fileOf}
 use Rattle.ech.specs.ReadWrite.{readAnswer, readTarget, writeAnswer, writeTarget}
@@ -83,13 +84,13 @@ read-admitted f u kind w h body ef ek ew eh eb p =
         ∙ ap₂ (λ x y. picture kind x y (bodyOf f)) ew eh ∙ ap (picture kind w h) eb
 
 -- ---- written, then read:
--- the file's own bytes read into any buffer with room give the picture's bytes, its kind and its size
+-- the file's own bytes read into any buffer with room give the picture's points, its kind and its size
 pub record SamePicture (kind w h : ℕ) (s f u : List ℕ) : Type 0 where
   pub done : isDone (readAnswer f (length u)) ≡ true
   pub kind-same : kindOf f ≡ kind
   pub pings-same : pingsOf f ≡ w
   pub bins-same : binsOf f ≡ h
-  pub bytes-same : readTarget f u ≡ s ++ drop (pictureBytes (depthOf kind) w h) u
+  pub bytes-same : readTarget f u ≡ written (depthOf kind) (λ x y. valueAt (depthOf kind) s w x y) w h u
 
 pub written-then-read : (kind w h : ℕ) (s t u : List ℕ) → Bytes s → isDone (writeAnswer kind w h s t) ≡ true
     → pictureBytes (depthOf kind) w h ≤ length u
@@ -120,7 +121,7 @@ written-then-read kind w h s t u bytes e room =
       bins-same = file-bins kind w h known body;
       bytes-same =
           r .1 ∙ ap (λ l. l ++ drop (pictureBytes depth w h) u)
-          (faced-twice depth face s bytes w h some (p .1 .clear) (p .1 .whole));
+          (faced-again depth face s bytes w h);
     }
 
 -- ---- read, then written: the picture's bytes written with the file's kind and size give the file's bytes
@@ -210,16 +211,13 @@ module _ (f : List ℕ) (bytes : Bytes f) (ok : Accepted f) where
       ∙ take-at pictureIn _ _ (bytes-long (depthOf (kindOf f)) _ (pingsOf f) (binsOf f))
 
   picture-admitted : (t' : List ℕ) → length f ≤ length t'
-      → Admitted Judged (depthOf (kindOf f)) (pingsOf f) (binsOf f) pictureIn headBytes (length t')
+      → Admitted Free (depthOf (kindOf f)) (pingsOf f) (binsOf f) pictureIn headBytes (length t')
   unfolding pictureIn
   picture-admitted t' room =
       record {
         sized = ok .sized;
         whole = bytes-long (depthOf (kindOf f)) _ (pingsOf f) (binsOf f);
-        clear =
-            bytes-clear (depthOf (kindOf f)) _ (pingsOf f) (binsOf f)
-            (sized-tells (pingsOf f) (binsOf f) (ok .sized) .some-pings) (λ x y k l.
-            faced-small (depthOf (kindOf f)) (faceOf (kindOf f)) (bodyOf f) body-bytes (pingsOf f) x y);
+        clear = refl;
         roomy = omega (arith, length-drop headBytes f, ok .whole, ok .long);
       }
 
@@ -235,9 +233,9 @@ module _ (f : List ℕ) (bytes : Bytes f) (ok : Accepted f) where
   unfolding writeAnswer writeTarget unlessRefused
   written-back t' room =
       let done : isDone (writeAnswer (kindOf f) (pingsOf f) (binsOf f) pictureIn t') ≡ true =
-      ap (λ b. isDone (refuse ((not b, 9) ∷ bodyTests Judged (depthOf (kindOf f))
+      ap (λ b. isDone (refuse ((not b, 9) ∷ bodyTests Free (depthOf (kindOf f))
       (pingsOf f) (binsOf f) pictureIn headBytes (length t')) (plain 0))) (ok .known)
-      ∙ body-passes Judged (depthOf (kindOf f)) (pingsOf f)
+      ∙ body-passes Free (depthOf (kindOf f)) (pingsOf f)
       (binsOf f) pictureIn headBytes (length t') (picture-admitted t' room) in
       record {
         done = done;

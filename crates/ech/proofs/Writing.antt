@@ -20,7 +20,7 @@ use Rattle.picture.specs.declared.Depth.{Depth}
 use Rattle.picture.specs.declared.Face.{Face}
 use Rattle.picture.specs.Frame.{pictureBytes}
 use Rattle.picture.specs.Bytes.{bytesOf, written, faced}
-use Rattle.judge.specs.declared.Padding.the-variants.{Judged}
+use Rattle.judge.specs.declared.Padding.the-variants.{Free}
 use Rattle.judge.specs.Tests.{bodyTests}
 use Rattle.ech.specs.File.{headBytes, knownKind, depthOf, faceOf, headOf, fileOf}
 use Rattle.ech.specs.ReadWrite.{writeAnswer, writeTarget}
@@ -89,11 +89,11 @@ module _ (kind w h : ℕ) (s t : List ℕ) where
       (r, kept-by t _ (writeAnswer kind w h s t) (told a) r (ap (λ x. isDone (told x)) q))
 
   module _ (known : knownKind kind ≡ true) (depth : Depth) (ed : depth ≡ depthOf kind) (a : Answer)
-      (ea : told a ≡ refuse (bodyTests Judged depth w h s headBytes (length t)) (plain 0)) where
+      (ea : told a ≡ refuse (bodyTests Free depth w h s headBytes (length t)) (plain 0)) where
     pub write-answer : told a ≡ writeAnswer kind w h s t
     unfolding writeAnswer
     write-answer =
-        ea ∙ ap (λ d. refuse (bodyTests Judged d w h s headBytes (length t)) (plain 0)) ed ∙ simp known
+        ea ∙ ap (λ d. refuse (bodyTests Free d w h s headBytes (length t)) (plain 0)) ed ∙ simp known
 
     pub write-done : (u : List ℕ) → isDone (told a) ≡ true
         → u ≡ fileOf kind w h s ++ drop (headBytes + pictureBytes (depthOf kind) w h) t

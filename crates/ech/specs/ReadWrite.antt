@@ -10,7 +10,7 @@ use Rattle.answer.specs.Refuse.{Test, refuse}
 use Rattle.answer.specs.Lent.{unlessRefused}
 use Rattle.picture.specs.Frame.{pictureBytes}
 use Rattle.picture.specs.Bytes.{Picture, written, faced}
-use Rattle.judge.specs.declared.Padding.the-variants.{Judged}
+use Rattle.judge.specs.declared.Padding.the-variants.{Judged, Free}
 use Rattle.judge.specs.Tests.{bodyTests}
 use Rattle.ech.specs.declared.Header.{Header}
 use Rattle.ech.specs.File.{headBytes, knownKind, depthOf, faceOf, formed}
@@ -40,9 +40,9 @@ pub record GivenBack (answer-told : Told) (kind-read pings-read bins-read : ℕ)
   pub pings : r .w ≡ cond (isDone answer-told) pings-read 0
   pub bins : r .h ≡ cond (isDone answer-told) bins-read 0
 
--- the writer meets 9 for a kind it does not know, then 1, 2, 3, 8
+-- the writer meets 9 for a kind it does not know, then 1, 2, 8: what stands in the source's padding is free
 abbrev pub writeTests : ℕ → ℕ → ℕ → List ℕ → ℕ → List Test
-writeTests kind w h s room = (not (knownKind kind), 9) ∷ bodyTests Judged (depthOf kind) w h s headBytes room
+writeTests kind w h s room = (not (knownKind kind), 9) ∷ bodyTests Free (depthOf kind) w h s headBytes room
 
 unfoldable pub writeAnswer : ℕ → ℕ → ℕ → List ℕ → List ℕ → Told
 writeAnswer kind w h s t = refuse (writeTests kind w h s (length t)) (plain 0)

@@ -183,7 +183,7 @@ fn head_of(kind: usize, w: usize, h: usize) -> [u8; HEAD]
 // Writes head and body.
 fn put_file(kind: usize, w: usize, h: usize, source: &[u8], target: &mut [u8])
     requires { ⌜ knownKind kind ≡ true ⌝ }
-    requires { ⌜ Admitted Padding.Judged (depthOf kind) w h (now source) headBytes (length (now target)) ⌝ }
+    requires { ⌜ Admitted Padding.Free (depthOf kind) w h (now source) headBytes (length (now target)) ⌝ }
     ensures { λ _. ⌜ now (target .exit)
         ≡ fileOf kind w h (now (source .entry))
         ++ drop (headBytes + pictureBytes (depthOf kind) w h) (now (target .entry)) ⌝ }
@@ -203,16 +203,7 @@ pub fn write_ech(kind: usize, w: usize, h: usize, source: &[u8], target: &mut [u
     if is_known(kind) {
         let depth = depth_of(kind);
         let room = target.len();
-        let a = judge::refusal(
-            Padding::Judged,
-            depth,
-            w,
-            h,
-            source,
-            Answer::Done,
-            HEAD,
-            room,
-        );
+        let a = judge::refusal(Padding::Free, depth, w, h, source, Answer::Done, HEAD, room);
         if answer::is_done(a) {
             put_file(kind, w, h, source, target);
             return a;

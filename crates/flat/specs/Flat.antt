@@ -12,12 +12,12 @@ use Rattle.picture.specs.Points.{valueAt}
 use Rattle.picture.specs.Bytes.{Picture, written}
 use Rattle.element.specs.Shape.{Shape}
 use Rattle.element.specs.Descriptor.{wellMade, shapeIn}
-use Rattle.judge.specs.declared.Padding.the-variants.{Judged}
+use Rattle.judge.specs.declared.Padding.the-variants.{Free}
 use Rattle.judge.specs.Tests.{elementTests}
 
--- SIZE, SOURCE, PAD, SHAPE and ROOM
+-- SIZE, SOURCE, SHAPE and ROOM: what stands in the source's padding is free
 abbrev pub flatTests : Depth → ℕ → ℕ → List ℕ → List ℕ → ℕ → List Test
-flatTests depth w h source descriptor room = elementTests Judged depth w h source (wellMade descriptor) room
+flatTests depth w h source descriptor room = elementTests Free depth w h source (wellMade descriptor) room
 
 -- the answer: the first refusal, or done
 abbrev pub flatAnswer : Depth → ℕ → ℕ → List ℕ → List ℕ → ℕ → Told

@@ -37,7 +37,7 @@ fn run(
     let shape = read.answer;
     let e = read.element;
     let room = target.len();
-    let no = judge::refusal(Padding::Judged, depth, w, h, source, shape, 0, room);
+    let no = judge::refusal(Padding::Free, depth, w, h, source, shape, 0, room);
     if answer::is_done(no) {
         apply::flat(depth, way, w, h, source, e, target);
         return no;
@@ -74,7 +74,7 @@ fn run_twice(
     let shape = read.answer;
     let e = read.element;
     let room = basics::lesser(target.len(), scratch.len());
-    let no = judge::refusal(Padding::Judged, depth, w, h, source, shape, 0, room);
+    let no = judge::refusal(Padding::Free, depth, w, h, source, shape, 0, room);
     if answer::is_done(no) {
         apply::flat_twice(depth, first, w, h, source, e, target, scratch);
         return no;

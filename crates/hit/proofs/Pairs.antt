@@ -26,7 +26,7 @@ use Rattle.element.proofs.Cells.{cell-same}
 use Rattle.morphology.specs.Operations.{complement, hitMiss}
 use Rattle.morphology.specs.Overlap.{shared}
 use Rattle.morphology.proofs.Overlap.{shared-cells}
-use Rattle.judge.specs.declared.Padding.the-variants.{Judged}
+use Rattle.judge.specs.declared.Padding.the-variants.{Free}
 use Rattle.judge.specs.Tests.{Admitted, pictureTests, shapeTests, roomTests}
 use Rattle.judge.proofs.Admitted.{staged, admitted, picture-numbered}
 use Rattle.apply.proofs.Read.{element-is, fitting, flat-read}
@@ -107,7 +107,7 @@ module _ (hit miss : List ℕ) (b : Bytes hit) (b' : Bytes miss) (e e' : Element
 -- ---- the whole answer
 pub hit-numbered : (w h : ℕ) (s hit miss : List ℕ) (room : ℕ) → Numbered (hitTests w h s hit miss room)
 hit-numbered w h s hit miss room =
-    picture-numbered Judged OneBit w h s
+    picture-numbered Free OneBit w h s
     (pairTests (wellMade hit) (wellMade miss) (shared (shapeIn hit) (shapeIn miss))
     ++ roomTests OneBit w h 0 room)
     (omega arith, (omega arith, (omega arith, (omega arith, tt))))
@@ -115,25 +115,25 @@ hit-numbered w h s hit miss room =
 module _ (w h : ℕ) (s hit miss : List ℕ) (room : ℕ) (pair answer : Told)
     (ep : pair
     ≡ refuse (pairTests (wellMade hit) (wellMade miss) (shared (shapeIn hit) (shapeIn miss))) (plain 0))
-    (ea : answer ≡ refuse (pictureTests Judged OneBit w h s)
+    (ea : answer ≡ refuse (pictureTests Free OneBit w h s)
     (ifDone pair (refuse (roomTests OneBit w h 0 room) (plain 0)))) where
   pub answer-is : answer ≡ refuse (hitTests w h s hit miss room) (plain 0)
   answer-is =
-      ea ∙ ap (λ x. refuse (pictureTests Judged OneBit w h s)
+      ea ∙ ap (λ x. refuse (pictureTests Free OneBit w h s)
       (ifDone x (refuse (roomTests OneBit w h 0 room) (plain 0)))) ep
-      ∙ ap (refuse (pictureTests Judged OneBit w h s))
+      ∙ ap (refuse (pictureTests Free OneBit w h s))
       (two-parts (pairTests (wellMade hit) (wellMade miss) (shared (shapeIn hit) (shapeIn miss)))
       (roomTests OneBit w h 0 room)
       (omega arith, (omega arith, (omega arith, tt))))
-      ∙ in-parts (pictureTests Judged OneBit w h s)
+      ∙ in-parts (pictureTests Free OneBit w h s)
       (pairTests (wellMade hit) (wellMade miss) (shared (shapeIn hit) (shapeIn miss))
       ++ roomTests OneBit w h 0 room) (plain 0)
 
   -- where it is done the picture is admitted, by two descriptors that are well made
   pub pair-admitted : isDone answer ≡ true
-      → Admitted Judged OneBit w h s 0 room × ((wellMade hit ≡ true) × (wellMade miss ≡ true))
+      → Admitted Free OneBit w h s 0 room × ((wellMade hit ≡ true) × (wellMade miss ≡ true))
   pair-admitted e =
-      let p = admitted Judged OneBit w h s pair 0 room (ap isDone (sym ea) ∙ e) in
+      let p = admitted Free OneBit w h s pair 0 room (ap isDone (sym ea) ∙ e) in
       let q = staged (not (wellMade hit)) 4 _ (omega arith) (ap isDone (sym ep) ∙ p .1) in
       let r = staged (not (wellMade miss)) 4 _ (omega arith) (q .1) in
       (p .0, (not-false _ (q .0), not-false _ (r .0)))

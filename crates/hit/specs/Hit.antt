@@ -13,17 +13,17 @@ use Rattle.picture.specs.Bytes.{written}
 use Rattle.element.specs.Descriptor.{wellMade, shapeIn}
 use Rattle.morphology.specs.Operations.{hitMiss}
 use Rattle.morphology.specs.Overlap.{shared}
-use Rattle.judge.specs.declared.Padding.the-variants.{Judged}
+use Rattle.judge.specs.declared.Padding.the-variants.{Free}
 use Rattle.judge.specs.Tests.{pictureTests, roomTests}
 
 -- SHAPE, hit before miss, and OVERLAP
 abbrev pub pairTests : Bool → Bool → Bool → List Test
 pairTests hit miss overlap = (not hit, 4) ∷ (not miss, 4) ∷ (overlap, 5) ∷ []
 
--- SIZE, SOURCE, PAD; these; ROOM
+-- SIZE, SOURCE; these; ROOM
 abbrev pub hitTests : ℕ → ℕ → List ℕ → List ℕ → List ℕ → ℕ → List Test
 hitTests w h s hit miss room =
-    pictureTests Judged OneBit w h s
+    pictureTests Free OneBit w h s
     ++ (pairTests (wellMade hit) (wellMade miss) (shared (shapeIn hit) (shapeIn miss))
     ++ roomTests OneBit w h 0 room)
 

@@ -190,7 +190,7 @@ pub fn hit_or_miss(
     let a = pair.hit;
     let b = pair.miss;
     let room = target.len();
-    let no = judge::refusal(Padding::Judged, Depth::OneBit, w, h, source, shape, 0, room);
+    let no = judge::refusal(Padding::Free, Depth::OneBit, w, h, source, shape, 0, room);
     if answer::is_done(no) {
         let hits = a.rows;
         let misses = b.rows;

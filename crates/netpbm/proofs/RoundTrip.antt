@@ -11,7 +11,7 @@ use Rattle.basics.specs.Bytes.{Bytes}
 use Rattle.answer.specs.Answer.{plain, isDone}
 use Rattle.answer.specs.Refuse.{refuse}
 use Rattle.answer.specs.Lent.{unlessRefused}
-use Rattle.judge.specs.declared.Padding.the-variants.{Judged, Free}
+use Rattle.judge.specs.declared.Padding.the-variants.{Free}
 use Rattle.judge.specs.Tests.{bodyTests, Admitted}
 use Rattle.judge.proofs.Bodies.{body-admitted, body-passes}
 use Rattle.picture.specs.declared.Depth.{Depth}
@@ -31,9 +31,9 @@ use Rattle.netpbm.proofs.OwnHeader.{own-maximum, own-header, own-right}
 
 -- what a write that is done tells
 pub write-tells : (depth : Depth) (w h : ℕ) (s t : List ℕ) → isDone (writeAnswer depth w h s t) ≡ true
-    → Admitted Judged depth w h s (length (headOf depth w h)) (length t)
+    → Admitted Free depth w h s (length (headOf depth w h)) (length t)
 unfolding writeAnswer
-write-tells depth w h s t e = body-admitted Judged depth w h s (length (headOf depth w h)) (length t) e
+write-tells depth w h s t e = body-admitted Free depth w h s (length (headOf depth w h)) (length t) e
 
 -- ---- a read of a file whose header is known
 module _ (depth : Depth) (w h : ℕ) (body f u : List ℕ)
@@ -134,11 +134,11 @@ module _ (depth : Depth) (f : List ℕ) (bytes : Bytes (rasterOf depth f))
   unfolding writeAnswer writeTarget unlessRefused w h raster
   written-back t l =
       let done : isDone (writeAnswer depth w h raster t) ≡ true =
-      body-passes Judged depth w h raster (length (headOf depth w h)) (length t)
+      body-passes Free depth w h raster (length (headOf depth w h)) (length t)
       (record {
         sized = p .sized;
         whole = p .whole;
-        clear = clear;
+        clear = refl;
         roomy = omega (arith, ap length own, length-append (headOf depth w h) raster, p .whole);
       }) in
       record {

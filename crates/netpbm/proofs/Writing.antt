@@ -22,7 +22,7 @@ use Rattle.picture.specs.Frame.{pictureBytes}
 use Rattle.picture.specs.Points.{valueAt}
 use Rattle.picture.specs.Bytes.{bytesOf, written, faced}
 use Rattle.picture.proofs.Bytes.{bytes-long}
-use Rattle.judge.specs.declared.Padding.the-variants.{Judged}
+use Rattle.judge.specs.declared.Padding.the-variants.{Free}
 use Rattle.judge.specs.Tests.{bodyTests, Admitted}
 use Rattle.judge.proofs.Bodies.{body-admitted}
 use Rattle.pnmheader.specs.Header.{magicDigit}
@@ -97,16 +97,16 @@ file-made depth w h n s t u ys en eu ey =
 
 -- ---- the writer's answer and target, from what its parts say
 module _ (depth : Depth) (w h : ℕ) (s t : List ℕ) (n : ℕ) (en : n ≡ length (headOf depth w h)) (a : Answer)
-    (ea : told a ≡ refuse (bodyTests Judged depth w h s n (length t)) (plain 0)) where
+    (ea : told a ≡ refuse (bodyTests Free depth w h s n (length t)) (plain 0)) where
   write-answer : told a ≡ writeAnswer depth w h s t
   unfolding writeAnswer
-  write-answer = ea ∙ ap (λ k. refuse (bodyTests Judged depth w h s k (length t)) (plain 0)) en
+  write-answer = ea ∙ ap (λ k. refuse (bodyTests Free depth w h s k (length t)) (plain 0)) en
 
   pub write-admitted : isDone (told a) ≡ true
-      → Admitted Judged depth w h s (length (headOf depth w h)) (length t)
+      → Admitted Free depth w h s (length (headOf depth w h)) (length t)
   unfolding writeAnswer
   write-admitted d =
-      body-admitted Judged depth w h s (length (headOf depth w h)) (length t)
+      body-admitted Free depth w h s (length (headOf depth w h)) (length t)
       (ap isDone (sym write-answer) ∙ d)
 
   pub write-done : (u : List ℕ) → isDone (told a) ≡ true

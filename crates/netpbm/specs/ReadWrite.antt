@@ -11,7 +11,7 @@ use Rattle.answer.specs.Lent.{unlessRefused}
 use Rattle.picture.specs.declared.Depth.{Depth}
 use Rattle.picture.specs.Points.{valueAt}
 use Rattle.picture.specs.Bytes.{written}
-use Rattle.judge.specs.declared.Padding.the-variants.{Judged, Free}
+use Rattle.judge.specs.declared.Padding.the-variants.{Free}
 use Rattle.judge.specs.Tests.{bodyTests}
 use Rattle.netpbm.specs.declared.Header.{Header}
 use Rattle.netpbm.specs.File.{formed, pingsOf, binsOf, rasterOf, headOf, fileOf}
@@ -37,9 +37,9 @@ pub record GivenBack (answer-told : Told) (pings-read bins-read : ℕ) (r : Head
   pub pings : r .w ≡ cond (isDone answer-told) pings-read 0
   pub bins : r .h ≡ cond (isDone answer-told) bins-read 0
 
--- the writers meet 1, 2, 3 (PBM only: 8-bit pictures have no padding), 8
+-- the writers meet 1, 2, 8: what stands in the source's padding is free
 abbrev pub writeTests : Depth → ℕ → ℕ → List ℕ → ℕ → List Test
-writeTests depth w h s room = bodyTests Judged depth w h s (length (headOf depth w h)) room
+writeTests depth w h s room = bodyTests Free depth w h s (length (headOf depth w h)) room
 
 unfoldable pub writeAnswer : Depth → ℕ → ℕ → List ℕ → List ℕ → Told
 writeAnswer depth w h s t = refuse (writeTests depth w h s (length t)) (plain 0)

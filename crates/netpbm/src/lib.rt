@@ -149,7 +149,7 @@ fn put_head(depth: Depth, t: &mut [u8], w: usize, h: usize) -> usize
 
 // Writes head and body.
 fn put_file(depth: Depth, w: usize, h: usize, source: &[u8], target: &mut [u8])
-    requires { ⌜ Admitted Padding.Judged depth w h (now source) (length (headOf depth w h))
+    requires { ⌜ Admitted Padding.Free depth w h (now source) (length (headOf depth w h))
         (length (now target)) ⌝ }
     ensures { λ _. ⌜ now (target .exit)
         ≡ fileOf depth w h (now (source .entry))
@@ -168,7 +168,7 @@ fn write_file(depth: Depth, w: usize, h: usize, source: &[u8], target: &mut [u8]
     let before = head_len(depth, w, h);
     let room = target.len();
     let a = judge::refusal(
-        Padding::Judged,
+        Padding::Free,
         depth,
         w,
         h,

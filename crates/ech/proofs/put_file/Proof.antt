@@ -1,7 +1,7 @@
 -- Stands on the kit's copy for the head and on the copy of rows for the body, into what follows the head.
 -- The picture is admitted with ten bytes before it, so that both have room.
 use Rattle.ech.proofs.Writing.{known-few, head-copied, file-made}
-use Rattle.judge.specs.declared.Padding.the-variants.{Judged}
+use Rattle.judge.specs.declared.Padding.the-variants.{Free}
 use Rattle.judge.proofs.Admitted.{holds}
 use Rattle.picture.specs.declared.Depth.{Depth}
 use Rattle.picture.specs.Frame.{Holds}
@@ -31,8 +31,8 @@ copy-picture-requires c κs = let h = c .before .before .before .before .before 
     (λ (d : Depth). Holds d (length (a .source .now)) (a .w) (a .h)
     × Holds d (length (take (length u - 10) (drop 10 u))) (a .w) (a .h))
     (sym (h .before .before .depth-of .ensures)) (
-      holds Judged _ (a .w) (a .h) (a .source .now) _ (p .sized) (le-of-eq (sym (p .whole))),
-      holds Judged _ (a .w) (a .h) (a .source .now) _ (p .sized)
+      holds Free _ (a .w) (a .h) (a .source .now) _ (p .sized) (le-of-eq (sym (p .whole))),
+      holds Free _ (a .w) (a .h) (a .source .now) _ (p .sized)
           (omega (
             arith,
             ap length (tail-is u 10),

@@ -1,6 +1,6 @@
 -- Stands on is_known, judge's refusal and put_file: what nothing refuses is admitted, and is written.
 -- A refusal writes nothing.
-use Rattle.judge.specs.declared.Padding.the-variants.{Judged}
+use Rattle.judge.specs.declared.Padding.the-variants.{Free}
 use Rattle.judge.specs.Tests.{bodyTests}
 use Rattle.judge.proofs.Bodies.{body-judged}
 use Rattle.ech.proofs.Judging.{write-admitted}
@@ -22,9 +22,9 @@ known c = sym (c .before .is-known .ensures) ∙ c .if1 .taken
 judged : (c : tie.After-refusal) → let a = c .before .before .before .before .before .before .args in
     let d = c .before .depth-of .result in
     told (c .refusal .result)
-    ≡ refuse (bodyTests Judged d (a .w) (a .h) (a .source .now) headBytes (length (a .target .now))) (plain 0)
+    ≡ refuse (bodyTests Free d (a .w) (a .h) (a .source .now) headBytes (length (a .target .now))) (plain 0)
 judged c = let a = c .before .before .before .before .before .before .args in
-    body-judged Judged (c .before .depth-of .result) (a .w) (a .h)
+    body-judged Free (c .before .depth-of .result) (a .w) (a .h)
     (a .source .now) headBytes (length (a .target .now)) _
     (c .refusal .ensures)
 

@@ -7,7 +7,7 @@ use Rattle.element.specs.Descriptor.{wellMade}
 use Rattle.element.specs.Record.{elementOf}
 use Rattle.element.proofs.WellMade.{made-cells}
 use Rattle.rows.specs.Steps.Ways.{growsOf}
-use Rattle.judge.specs.declared.Padding.the-variants.{Judged}
+use Rattle.judge.specs.declared.Padding.the-variants.{Free}
 use Rattle.judge.specs.Tests.{Admitted}
 use Rattle.judge.proofs.Admitted.{holds, element-answer, element-admitted}
 use Rattle.apply.proofs.Read.{fitting, element-is, flat-written}
@@ -25,11 +25,11 @@ abbrev entry : tie.Then1 → tie.Start
 entry c = c .before .before .before .before .before .before .before .before
 
 known : (c : tie.Then1) → let a = entry c .args in
-    Admitted Judged (a .depth) (a .w) (a .h) (a .source .now) 0 (length (a .target .now))
+    Admitted Free (a .depth) (a .w) (a .h) (a .source .now) 0 (length (a .target .now))
     × (wellMade (a .element .now) ≡ true)
 known c =
     let a = entry c .args in
-    element-admitted Judged (a .depth) (a .w) (a .h) (a .source .now)
+    element-admitted Free (a .depth) (a .w) (a .h) (a .source .now)
     (wellMade (a .element .now)) (length (a .target .now)) _ _
     (c .before .before .before .before .read-element .ensures .0) (c .before .before .refusal .ensures)
     (sym (c .before .is-done .ensures) ∙ c .if1 .taken)
@@ -46,9 +46,9 @@ flat-requires c κs =
     let a = entry (c .before) .args in
     let k = known (c .before) .0 in
     let d = a .element .now in (
-      holds Judged (a .depth) (a .w) (a .h) (a .source .now) _ (k .sized) (le-of-eq (sym (k .whole))),
+      holds Free (a .depth) (a .w) (a .h) (a .source .now) _ (k .sized) (le-of-eq (sym (k .whole))),
       (
-        holds Judged (a .depth) (a .w) (a .h) (a .source .now) _ (k .sized) (omega (arith, k .roomy)),
+        holds Free (a .depth) (a .w) (a .h) (a .source .now) _ (k .sized) (omega (arith, k .roomy)),
         fitting d (made-cells d (known (c .before) .1)) _ (element-known (c .before)),
       ),
     )
@@ -58,7 +58,7 @@ returns c =
     let p = c .before .before .before .before in
     let a = entry p .args in
     let d = a .element .now in
-    let e = element-answer Judged (a .depth) (a .w) (a .h)
+    let e = element-answer Free (a .depth) (a .w) (a .h)
     (a .source .now) (wellMade d) (length (a .target .now)) _ _
     (p .before .before .before .before .read-element .ensures .0) (p .before .before .refusal .ensures) in (
       e,
@@ -74,7 +74,7 @@ returns c =
 returns-2 : tie.Need-returns-2
 returns-2 c =
     let a = c .before .before .before .before .before .before .before .before .args in
-    let e = element-answer Judged (a .depth) (a .w) (a .h) (a .source .now)
+    let e = element-answer Free (a .depth) (a .w) (a .h) (a .source .now)
     (wellMade (a .element .now)) (length (a .target .now)) _ _
     (c .before .before .before .before .read-element .ensures .0) (c .before .before .refusal .ensures) in
     (e, kept-by (a .target .now) _ _ _ e (sym (c .before .is-done .ensures) ∙ c .if1 .left))

@@ -5,7 +5,7 @@ use Rattle.picture.specs.declared.Depth.the-variants.{OneBit}
 use Rattle.picture.specs.Frame.{Holds}
 use Rattle.element.specs.Descriptor.{wellMade}
 use Rattle.element.proofs.WellMade.{made-cells}
-use Rattle.judge.specs.declared.Padding.the-variants.{Judged}
+use Rattle.judge.specs.declared.Padding.the-variants.{Free}
 use Rattle.judge.specs.Tests.{Admitted}
 use Rattle.judge.proofs.Admitted.{holds}
 use Rattle.apply.proofs.Applied.{ready}
@@ -25,7 +25,7 @@ abbrev entry : tie.Then1 → tie.Start
 entry c = c .before .before .before .before .before .before .before .before .before .before
 
 known : (c : tie.Then1) → let a = entry c .args in
-    Admitted Judged OneBit (a .w) (a .h) (a .source .now) 0 (length (a .target .now))
+    Admitted Free OneBit (a .w) (a .h) (a .source .now) 0 (length (a .target .now))
     × ((wellMade (a .hit .now) ≡ true) × (wellMade (a .miss .now) ≡ true))
 known c =
     let a = entry c .args in
@@ -37,7 +37,7 @@ source-holds : (c : tie.Then1) → let a = entry c .args in Holds OneBit (length
 source-holds c =
     let a = entry c .args in
     let k = known c .0 in
-    holds Judged OneBit (a .w) (a .h) (a .source .now) _ (k .sized) (le-of-eq (sym (k .whole)))
+    holds Free OneBit (a .w) (a .h) (a .source .now) _ (k .sized) (le-of-eq (sym (k .whole)))
 
 hit-rows-requires : tie.Need-hit-rows-requires
 hit-rows-requires c κs =
@@ -52,7 +52,7 @@ hit-rows-requires c κs =
       (
         ready OneBit _ (a .w) (a .h) (r .result .miss) (source-holds i)
             (fitting m (made-cells m (k .1 .1)) _ (element-is (wellMade m) m _ (r .ensures .1 .1) (k .1 .1))),
-        holds Judged OneBit (a .w) (a .h) (a .source .now) _ (k .0 .sized) (omega (arith, k .0 .roomy)),
+        holds Free OneBit (a .w) (a .h) (a .source .now) _ (k .0 .sized) (omega (arith, k .0 .roomy)),
       ),
     )
 

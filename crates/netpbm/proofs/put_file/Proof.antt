@@ -1,7 +1,7 @@
 -- Stands on put_head, and on the copy of rows for the body, into what follows the head.
 -- The picture is admitted with the head before it, so that both have room.
 use Rattle.netpbm.proofs.Writing.{file-made}
-use Rattle.judge.specs.declared.Padding.the-variants.{Judged}
+use Rattle.judge.specs.declared.Padding.the-variants.{Free}
 use Rattle.judge.proofs.Admitted.{holds}
 use Rattle.basics.proofs.Lists.{tail-is}
 use lib.ListN.{length, length-drop}
@@ -19,8 +19,8 @@ copy-picture-requires c κs = let q = c .before .before .before in
     let p = s .pre in
     let u = q .put-head .last .1 .0 in
     let n = q .put-head .result in (
-      holds Judged (a .depth) (a .w) (a .h) (a .source .now) _ (p .sized) (le-of-eq (sym (p .whole))),
-      holds Judged (a .depth) (a .w) (a .h) (a .source .now) _ (p .sized)
+      holds Free (a .depth) (a .w) (a .h) (a .source .now) _ (p .sized) (le-of-eq (sym (p .whole))),
+      holds Free (a .depth) (a .w) (a .h) (a .source .now) _ (p .sized)
           (omega (
             arith,
             ap length (tail-is u n),

@@ -1,6 +1,6 @@
 -- Stands on judge's refusal and put_file: what nothing refuses is admitted, and is written.
 -- A refusal writes nothing.
-use Rattle.judge.specs.declared.Padding.the-variants.{Judged}
+use Rattle.judge.specs.declared.Padding.the-variants.{Free}
 use Rattle.judge.specs.Tests.{bodyTests}
 use Rattle.judge.proofs.Bodies.{body-judged}
 use Rattle.netpbm.proofs.Writing.{write-admitted, write-done, write-refused}
@@ -15,10 +15,10 @@ use Rattle.netpbm.proofs.write_file.Tie as tie
 
 judged : (c : tie.After-refusal) → let a = c .before .before .before .before .args in
     told (c .refusal .result)
-    ≡ refuse (bodyTests Judged (a .depth) (a .w) (a .h) (a .source .now)
+    ≡ refuse (bodyTests Free (a .depth) (a .w) (a .h) (a .source .now)
     (c .before .head-len .result) (length (a .target .now))) (plain 0)
 judged c = let a = c .before .before .before .before .args in
-    body-judged Judged (a .depth) (a .w) (a .h) (a .source .now)
+    body-judged Free (a .depth) (a .w) (a .h) (a .source .now)
     (c .before .head-len .result) (length (a .target .now)) _ (c .refusal .ensures)
 
 done : (c : tie.Then1) → isDone (told (c .before .before .refusal .result)) ≡ true
