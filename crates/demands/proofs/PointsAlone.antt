@@ -95,68 +95,85 @@ module _ (c d : Call) (q : Repadded c d) (m n : ℕ) (e : m ≡ n) where
       ∙ (λ i. flatLeft (q .depth i) (operation (q .depth i)) (q .pings i) (q .bins i)
       (d .source) (q .descriptor i) (e i) (eb i))
 
+-- what a call answers and leaves in a buffer, by its operation and the shortest buffer's length
+abbrev answered : Call → ℕ → Told
+answered c room = flatAnswer (c .depth) (c .w) (c .h) (c .source) (c .descriptor) room
+
+abbrev left : Operation → Call → ℕ → List ℕ → List ℕ
+left operation c room b =
+    flatLeft (c .depth) (operation (c .depth)) (c .w) (c .h) (c .source) (c .descriptor) room b
+
+abbrev Respectful : Operation → Type 0
+Respectful operation = (depth : Depth) (F : Frame) (B : Shape) → Respects (operation depth F B) F
+
+once-alone : (operation : Operation) → Respectful operation → (c d : Call) (t u : Told) → Repadded c d
+    → (t ≡ answered c (length (c .before)))
+    × (c .after ≡ left operation c (length (c .before)) (c .before))
+    → (u ≡ answered d (length (d .before)))
+    × (d .after ≡ left operation d (length (d .before)) (d .before))
+    → SameOnce c d t u
+once-alone operation respects c d t u q p p′ =
+    let room = ap length (q .target) in (
+      p .0 ∙ flat-answer-same c d q _ _ room ∙ sym (p′ .0),
+      p .1 ∙ flat-left-same c d q _ _ room operation respects _ _ (q .target) ∙ sym (p′ .1),
+    )
+
+-- with a scratch, in which the middle picture stays
+twice-alone : (operation : Operation) → Respectful operation → (middle : Operation) → Respectful middle
+    → (c d : Twice) (t u : Told) → RepaddedTwice c d
+    → (t ≡ answered (c .to-target) (roomTwice c))
+    × ((c .to-target .after ≡ left operation (c .to-target) (roomTwice c) (c .to-target .before))
+    × (c .after ≡ left middle (c .to-target) (roomTwice c) (c .before)))
+    → (u ≡ answered (d .to-target) (roomTwice d))
+    × ((d .to-target .after ≡ left operation (d .to-target) (roomTwice d) (d .to-target .before))
+    × (d .after ≡ left middle (d .to-target) (roomTwice d) (d .before)))
+    → SameTwice c d t u
+twice-alone operation respects middle respects-middle c d t u q p p′ =
+    let one = c .to-target in
+    let other = d .to-target in
+    let room = ap₂ (λ b s. min (length b) (length s)) (q .once .target) (q .scratch) in (
+      (
+        p .0 ∙ flat-answer-same one other (q .once) _ _ room ∙ sym (p′ .0),
+        p .1 .0 ∙ flat-left-same one other (q .once) _ _ room operation respects _ _ (q .once .target)
+            ∙ sym (p′ .1 .0),
+      ),
+      p .1 .1 ∙ flat-left-same one other (q .once) _ _ room middle respects-middle _ _ (q .scratch)
+          ∙ sym (p′ .1 .1),
+    )
+
 pub erode-alone : Every 3 erode-kinds.ps erode-kinds.r erode-reads.Learnt (λ κs a x e.
     Every 3 erode-kinds.ps erode-kinds.r erode-reads.Learnt (λ κs′ a′ x′ e′.
     Repadded (call κs a e) (call κs′ a′ e′)
     → SameOnce (call κs a e) (call κs′ a′ e′) (told x) (told x′)))
 erode-alone κs a x e p κs′ a′ x′ e′ p′ q =
-    let c = call κs a e in
-    let d = call κs′ a′ e′ in
-    let room = ap length (q .target) in (
-      p .0 ∙ flat-answer-same c d q _ _ room ∙ sym (p′ .0),
-      p .1 ∙ flat-left-same c d q _ _ room (λ depth. erode (top depth))
-          (λ depth F B. erode-respects F B (top depth)) _ _ (q .target) ∙ sym (p′ .1),
-    )
+    once-alone (λ depth. erode (top depth)) (λ depth F B. erode-respects F B (top depth))
+    (call κs a e) (call κs′ a′ e′) (told x) (told x′) q p p′
 
 pub dilate-alone : Every 3 dilate-kinds.ps dilate-kinds.r dilate-reads.Learnt (λ κs a x e.
     Every 3 dilate-kinds.ps dilate-kinds.r dilate-reads.Learnt (λ κs′ a′ x′ e′.
     Repadded (call κs a e) (call κs′ a′ e′)
     → SameOnce (call κs a e) (call κs′ a′ e′) (told x) (told x′)))
 dilate-alone κs a x e p κs′ a′ x′ e′ p′ q =
-    let c = call κs a e in
-    let d = call κs′ a′ e′ in
-    let room = ap length (q .target) in (
-      p .0 ∙ flat-answer-same c d q _ _ room ∙ sym (p′ .0),
-      p .1 ∙ flat-left-same c d q _ _ room (λ depth. dilate)
-          (λ depth F B. dilate-respects F B) _ _ (q .target) ∙ sym (p′ .1),
-    )
-
-room-same : (c d : Twice) → RepaddedTwice c d → roomTwice c ≡ roomTwice d
-room-same c d q = ap₂ (λ b s. min (length b) (length s)) (q .once .target) (q .scratch)
+    once-alone (λ depth. dilate) (λ depth F B. dilate-respects F B)
+    (call κs a e) (call κs′ a′ e′) (told x) (told x′) q p p′
 
 pub open-alone : Every 4 open-kinds.ps open-kinds.r open-reads.Learnt (λ κs a x e.
     Every 4 open-kinds.ps open-kinds.r open-reads.Learnt (λ κs′ a′ x′ e′.
     RepaddedTwice (twice κs a e) (twice κs′ a′ e′)
     → SameTwice (twice κs a e) (twice κs′ a′ e′) (told x) (told x′)))
 open-alone κs a x e p κs′ a′ x′ e′ p′ q =
-    let c = twice κs a e .to-target in
-    let d = twice κs′ a′ e′ .to-target in
-    let room = room-same (twice κs a e) (twice κs′ a′ e′) q in (
-      (
-        p .0 ∙ flat-answer-same c d (q .once) _ _ room ∙ sym (p′ .0),
-        p .1 .0 ∙ flat-left-same c d (q .once) _ _ room (λ depth. opening (top depth))
-            (λ depth F B. opening-respects F B (top depth)) _ _ (q .once .target) ∙ sym (p′ .1 .0),
-      ),
-      p .1 .1 ∙ flat-left-same c d (q .once) _ _ room (λ depth. erode (top depth))
-          (λ depth F B. erode-respects F B (top depth)) _ _ (q .scratch) ∙ sym (p′ .1 .1),
-    )
+    twice-alone (λ depth. opening (top depth)) (λ depth F B. opening-respects F B (top depth))
+    (λ depth. erode (top depth)) (λ depth F B. erode-respects F B (top depth))
+    (twice κs a e) (twice κs′ a′ e′) (told x) (told x′) q p p′
 
 pub close-alone : Every 4 close-kinds.ps close-kinds.r close-reads.Learnt (λ κs a x e.
     Every 4 close-kinds.ps close-kinds.r close-reads.Learnt (λ κs′ a′ x′ e′.
     RepaddedTwice (twice κs a e) (twice κs′ a′ e′)
     → SameTwice (twice κs a e) (twice κs′ a′ e′) (told x) (told x′)))
 close-alone κs a x e p κs′ a′ x′ e′ p′ q =
-    let c = twice κs a e .to-target in
-    let d = twice κs′ a′ e′ .to-target in
-    let room = room-same (twice κs a e) (twice κs′ a′ e′) q in (
-      (
-        p .0 ∙ flat-answer-same c d (q .once) _ _ room ∙ sym (p′ .0),
-        p .1 .0 ∙ flat-left-same c d (q .once) _ _ room (λ depth. closing (top depth))
-            (λ depth F B. closing-respects F B (top depth)) _ _ (q .once .target) ∙ sym (p′ .1 .0),
-      ),
-      p .1 .1 ∙ flat-left-same c d (q .once) _ _ room (λ depth. dilate)
-          (λ depth F B. dilate-respects F B) _ _ (q .scratch) ∙ sym (p′ .1 .1),
-    )
+    twice-alone (λ depth. closing (top depth)) (λ depth F B. closing-respects F B (top depth))
+    (λ depth. dilate) (λ depth F B. dilate-respects F B)
+    (twice κs a e) (twice κs′ a′ e′) (told x) (told x′) q p p′
 
 -- ---- top-hats and the gradient
 pub white-tophat-alone : Every 4 white-kinds.ps white-kinds.r white-reads.Learnt (λ κs a x e.
@@ -164,51 +181,27 @@ pub white-tophat-alone : Every 4 white-kinds.ps white-kinds.r white-reads.Learnt
     RepaddedTwice (twice κs a e) (twice κs′ a′ e′)
     → SameTwice (twice κs a e) (twice κs′ a′ e′) (told x) (told x′)))
 white-tophat-alone κs a x e p κs′ a′ x′ e′ p′ q =
-    let c = twice κs a e .to-target in
-    let d = twice κs′ a′ e′ .to-target in
-    let room = room-same (twice κs a e) (twice κs′ a′ e′) q in (
-      (
-        p .0 ∙ flat-answer-same c d (q .once) _ _ room ∙ sym (p′ .0),
-        p .1 .0 ∙ flat-left-same c d (q .once) _ _ room (λ depth. whiteTopHat (top depth))
-            (λ depth F B. white-respects F B (top depth)) _ _ (q .once .target) ∙ sym (p′ .1 .0),
-      ),
-      p .1 .1 ∙ flat-left-same c d (q .once) _ _ room (λ depth. erode (top depth))
-          (λ depth F B. erode-respects F B (top depth)) _ _ (q .scratch) ∙ sym (p′ .1 .1),
-    )
+    twice-alone (λ depth. whiteTopHat (top depth)) (λ depth F B. white-respects F B (top depth))
+    (λ depth. erode (top depth)) (λ depth F B. erode-respects F B (top depth))
+    (twice κs a e) (twice κs′ a′ e′) (told x) (told x′) q p p′
 
 pub black-tophat-alone : Every 4 black-kinds.ps black-kinds.r black-reads.Learnt (λ κs a x e.
     Every 4 black-kinds.ps black-kinds.r black-reads.Learnt (λ κs′ a′ x′ e′.
     RepaddedTwice (twice κs a e) (twice κs′ a′ e′)
     → SameTwice (twice κs a e) (twice κs′ a′ e′) (told x) (told x′)))
 black-tophat-alone κs a x e p κs′ a′ x′ e′ p′ q =
-    let c = twice κs a e .to-target in
-    let d = twice κs′ a′ e′ .to-target in
-    let room = room-same (twice κs a e) (twice κs′ a′ e′) q in (
-      (
-        p .0 ∙ flat-answer-same c d (q .once) _ _ room ∙ sym (p′ .0),
-        p .1 .0 ∙ flat-left-same c d (q .once) _ _ room (λ depth. blackTopHat (top depth))
-            (λ depth F B. black-respects F B (top depth)) _ _ (q .once .target) ∙ sym (p′ .1 .0),
-      ),
-      p .1 .1 ∙ flat-left-same c d (q .once) _ _ room (λ depth. dilate)
-          (λ depth F B. dilate-respects F B) _ _ (q .scratch) ∙ sym (p′ .1 .1),
-    )
+    twice-alone (λ depth. blackTopHat (top depth)) (λ depth F B. black-respects F B (top depth))
+    (λ depth. dilate) (λ depth F B. dilate-respects F B)
+    (twice κs a e) (twice κs′ a′ e′) (told x) (told x′) q p p′
 
 pub gradient-alone : Every 4 gradient-kinds.ps gradient-kinds.r gradient-reads.Learnt (λ κs a x e.
     Every 4 gradient-kinds.ps gradient-kinds.r gradient-reads.Learnt (λ κs′ a′ x′ e′.
     RepaddedTwice (twice κs a e) (twice κs′ a′ e′)
     → SameTwice (twice κs a e) (twice κs′ a′ e′) (told x) (told x′)))
 gradient-alone κs a x e p κs′ a′ x′ e′ p′ q =
-    let c = twice κs a e .to-target in
-    let d = twice κs′ a′ e′ .to-target in
-    let room = room-same (twice κs a e) (twice κs′ a′ e′) q in (
-      (
-        p .0 ∙ flat-answer-same c d (q .once) _ _ room ∙ sym (p′ .0),
-        p .1 .0 ∙ flat-left-same c d (q .once) _ _ room (λ depth. gradient (top depth))
-            (λ depth F B. gradient-respects F B (top depth)) _ _ (q .once .target) ∙ sym (p′ .1 .0),
-      ),
-      p .1 .1 ∙ flat-left-same c d (q .once) _ _ room (λ depth. erode (top depth))
-          (λ depth F B. erode-respects F B (top depth)) _ _ (q .scratch) ∙ sym (p′ .1 .1),
-    )
+    twice-alone (λ depth. gradient (top depth)) (λ depth F B. gradient-respects F B (top depth))
+    (λ depth. erode (top depth)) (λ depth F B. erode-respects F B (top depth))
+    (twice κs a e) (twice κs′ a′ e′) (told x) (told x′) q p p′
 
 -- ---- hit-or-miss
 pub hit-or-miss-alone : Every 4 hit-kinds.ps hit-kinds.r hit-reads.Learnt (λ κs a x e.

@@ -70,7 +70,7 @@ fn make(
     }
 }
 
-// Free as an opening is, then made.
+// Judged as an opening is, then made.
 fn run(
     which: Which,
     depth: Depth,
