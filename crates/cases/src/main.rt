@@ -1,5 +1,5 @@
 // Runs the jobs of its input, a line each, and prints of each what it answers and every buffer that was lent:
-// operations on a picture, and copies.
+// the flat operations, top-hats and gradients, and copies.
 // tools/cases makes the lines, says what their letters and numbers mean, and makes what must be printed.
 use answer::Answer;
 use judge::Padding;
@@ -62,11 +62,6 @@ fn call(
         b'w' => differences::white_tophat(depth, w, h, source, element, target, scratch),
         b'b' => differences::black_tophat(depth, w, h, source, element, target, scratch),
         b'g' => differences::gradient(depth, w, h, source, element, target, scratch),
-        b'E' => weighted::erode(w, h, source, element, target),
-        b'D' => weighted::dilate(w, h, source, element, target),
-        b'O' => weighted::open(w, h, source, element, target, scratch),
-        b'C' => weighted::close(w, h, source, element, target, scratch),
-        b'h' => hit::hit_or_miss(w, h, source, element, other, target),
         b'a' => copied(depth, Face::AsIs, w, h, source, target),
         _ => copied(depth, Face::TurnedOver, w, h, source, target),
     }
