@@ -7,16 +7,21 @@
 static PIX *from, *to, *middle;
 static SEL *sel;
 
+static PIX *pix_of(int w, int h, const uint8_t *picture) {
+    PIX *a = pixCreate(w, h, 1);
+    for (int y = 0; y < h; y++)
+        for (int x = 0; x < w; x++)
+            if (picture[y * ((w + 7) / 8) + x / 8] >> (7 - x % 8) & 1) pixSetPixel(a, x, y, 1);
+    return a;
+}
+
 void leptonica_prepare(int w, int h, const uint8_t *source, const uint8_t *element) {
     resetMorphBoundaryCondition(SYMMETRIC_MORPH_BC);
     pixDestroy(&from);
     pixDestroy(&to);
     pixDestroy(&middle);
     selDestroy(&sel);
-    from = pixCreate(w, h, 1), to = pixCreate(w, h, 1), middle = pixCreate(w, h, 1);
-    for (int y = 0; y < h; y++)
-        for (int x = 0; x < w; x++)
-            if (source[y * ((w + 7) / 8) + x / 8] >> (7 - x % 8) & 1) pixSetPixel(from, x, y, 1);
+    from = pix_of(w, h, source), to = pixCreate(w, h, 1), middle = pixCreate(w, h, 1);
     sel = selCreate(element[1], element[0], "element");
     selSetOrigin(sel, element[3], element[2]);
     for (int r = 0; r < element[1]; r++)
@@ -47,3 +52,17 @@ void leptonica_result(uint8_t *target) {
             if (v) target[y * ((w + 7) / 8) + x / 8] |= (uint8_t)(128 >> x % 8);
         }
 }
+
+/* pixSeedfillBinary gives up after a fixed number of sweeps */
+void leptonica_grow_prepare(int w, int h, const uint8_t *marker, const uint8_t *mask) {
+    pixDestroy(&from);
+    pixDestroy(&middle);
+    from = pix_of(w, h, marker), middle = pix_of(w, h, mask);
+}
+
+void leptonica_grow(int aslant) {
+    pixDestroy(&to);
+    to = pixSeedfillBinary(0, from, middle, aslant ? 8 : 4);
+}
+
+void leptonica_grow_result(uint8_t *target) { leptonica_result(target); }

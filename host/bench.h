@@ -17,6 +17,11 @@ void leptonica_prepare(int w, int h, const uint8_t *source, const uint8_t *eleme
 void leptonica_run(char way);
 void leptonica_result(uint8_t *target);
 
+/* the same of a marker and a mask, grown by the four or, aslant, by the eight neighbours */
+void leptonica_grow_prepare(int w, int h, const uint8_t *marker, const uint8_t *mask);
+void leptonica_grow(int aslant);
+void leptonica_grow_result(uint8_t *target);
+
 #ifdef __cplusplus
 }
 #endif

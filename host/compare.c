@@ -60,7 +60,7 @@ typedef uint32_t middle_call(uint64_t, uint64_t, const uint8_t *, size_t, const 
 typedef uint32_t chain_call(uint64_t, uint64_t, const uint8_t *, size_t, const uint8_t *, size_t, uint64_t, const uint8_t *, size_t, uint8_t *, size_t,
                             uint8_t *, size_t);
 
-enum kind { FLAT, WEIGHTED, HIT, CHECK, CHAINED, READ, WRITE, PNM_READ, PNM_WRITE };
+enum kind { FLAT, WEIGHTED, HIT, GROW, CHECK, CHAINED, READ, WRITE, PNM_READ, PNM_WRITE };
 
 static const struct function {
     const char *name;
@@ -70,7 +70,7 @@ static const struct function {
     plain_call *plain;
     middle_call *middle;
     chain_call *chain;
-    const char *numbers; /* those that it can give: digits, and ; for 11 */
+    const char *numbers; /* those that it can give: digits, ; for 11 and < for 12 */
 } functions[] = {
     {"erode1", FLAT, 1, 'e', qik_erode1, 0, 0, "01248"},
     {"dilate1", FLAT, 1, 'd', qik_dilate1, 0, 0, "01248"},
@@ -87,6 +87,8 @@ static const struct function {
     {"black_tophat8", FLAT, 8, 'b', 0, qik_black_tophat8, 0, "01248"},
     {"gradient8", FLAT, 8, 'g', 0, qik_gradient8, 0, "01248"},
     {"hit_or_miss", HIT, 1, 0, 0, 0, 0, "012458"},
+    {"reconstruct_cross", GROW, 1, '+', qik_reconstruct_cross, 0, 0, "0128<"},
+    {"reconstruct_square", GROW, 1, '#', qik_reconstruct_square, 0, 0, "0128<"},
     {"weighted_erode", WEIGHTED, 8, 'e', qik_weighted_erode, 0, 0, "01248"},
     {"weighted_dilate", WEIGHTED, 8, 'd', qik_weighted_dilate, 0, 0, "01248"},
     {"weighted_open", WEIGHTED, 8, 'o', 0, qik_weighted_open, 0, "01248"},
@@ -114,6 +116,7 @@ static uint64_t library_answer(const struct function *f) {
     switch (f->kind) {
     case FLAT:
     case WEIGHTED:
+    case GROW:
         if (f->plain) return f->plain(w, h, s.at, s.len, e.at, e.len, t.at, t.len);
         return f->middle(w, h, s.at, s.len, e.at, e.len, t.at, t.len, m.at, m.len);
     case HIT: return qik_hit_or_miss(w, h, s.at, s.len, e.at, e.len, o.at, o.len, t.at, t.len);
@@ -136,6 +139,7 @@ static uint64_t independent_answer(const struct function *f) {
     case FLAT: return (uint64_t)own_flat(f->depth, f->way, w, h, s, e, t, m);
     case WEIGHTED: return (uint64_t)own_weighted(f->way, w, h, s, e, t, m);
     case HIT: return (uint64_t)own_hit_or_miss(w, h, s, e, o, t);
+    case GROW: return (uint64_t)own_reconstruct(f->way == '#', w, h, s, e, t);
     case CHECK: return packed(own_check_chain(e, links, o));
     case CHAINED: return packed(own_chained(f->depth, f->way, w, h, s, e, links, o, t, m));
     case READ:
@@ -432,6 +436,27 @@ static void some_pnm(int depth) {
     some_room(TARGET, is_sized() ? needed(depth) : len);
 }
 
+/* a mask, and a marker that mostly lies inside it; what stands in the padding of either is anything */
+static void some_growth(void) {
+    some_picture(ELEMENT, 0, 1);
+    uint8_t *mask = bytes_of(ELEMENT);
+    if (chance(50)) /* from 50 to 75 percent of the points: regions that wind */
+        for (size_t i = 0, sort = (size_t)below(4); i < length[ELEMENT]; i++) mask[i] = (uint8_t)(draw() | (draw() & (sort == 0 ? 0 : sort == 1 ? draw() : 255)));
+    some_picture(SOURCE, 0, 1);
+    uint8_t *marker = bytes_of(SOURCE);
+    size_t row = row_len(1, (size_t)w), n = length[SOURCE] < length[ELEMENT] ? length[SOURCE] : length[ELEMENT];
+    int few = chance(60);
+    for (size_t i = 0; i < n && is_sized(); i++) {
+        uint8_t free_bits = i % row == row - 1 && w % 8 ? (uint8_t)(255 >> w % 8) : 0;
+        uint8_t chosen = few ? (uint8_t)(draw() & draw() & draw() & draw() & draw()) : 255;
+        marker[i] = (uint8_t)((marker[i] & (free_bits | (mask[i] & chosen))));
+    }
+    if (few && chance(50)) /* one point, or none */
+        for (size_t i = 0, at = (size_t)below((int)n + 1); i < n; i++)
+            if (i != at) marker[i] = 0;
+    if (n && chance(20)) marker[below((int)n)] |= (uint8_t)(1 << below(8)); /* inside the mask, outside it, or in the padding */
+}
+
 static void some_call(const struct function *f) {
     for (int b = 0; b < BUFFERS; b++) fresh(b, 0);
     w = h = links = kind = 0;
@@ -462,6 +487,11 @@ static void some_call(const struct function *f) {
         some_room(TARGET, 10 + needed(depth));
         return;
     }
+    if (f->kind == GROW) {
+        some_growth();
+        some_room(TARGET, needed(1));
+        return;
+    }
     some_picture(SOURCE, 0, f->depth);
     if (f->kind == CHAINED) some_chain();
     else some_element(ELEMENT, f->kind == WEIGHTED);
@@ -490,7 +520,8 @@ static void say_call(const struct function *f, uint64_t seed, long round) {
     if (kind) printf(", kind %llu", (unsigned long long)kind);
     for (int b = 0; b < BUFFERS; b++) {
         if (!length[b]) continue;
-        printf("\n    %s, %lu bytes:", buffer_name[b], (unsigned long)length[b]);
+        const char *name = f->kind != GROW ? buffer_name[b] : b == SOURCE ? "marker" : b == ELEMENT ? "mask" : buffer_name[b];
+        printf("\n    %s, %lu bytes:", name, (unsigned long)length[b]);
         if (b == TARGET || b == SCRATCH) continue;
         for (size_t i = 0; i < length[b] && i < 40; i++) printf(" %d", memory[INDEPENDENT][b][AROUND + i]);
         if (length[b] > 40) printf(" ..");
@@ -702,13 +733,87 @@ static void netpbm(void) {
     must("PGM without room", qik_pgm_write(3, 1, LENT(grey), file, 13) == 8);
 }
 
+/* request (iv): answers and pictures by hand; every refusal also where a later one would hold too */
+static void grown(const char *name, const char *const *marker, const char *const *mask, const char *const *cross, const char *const *square) {
+    uint8_t drawn[4][16] = {{0}}, t[16];
+    const char *const *const rows[4] = {marker, mask, cross, square};
+    uint64_t pings = strlen(marker[0]), n = 0;
+    size_t row = row_len(1, (size_t)pings);
+    while (marker[n]) n++;
+    for (int k = 0; k < 4; k++)
+        for (size_t y = 0; y < n; y++)
+            for (size_t x = 0; x < pings; x++)
+                if (rows[k][y][x] == '#') drawn[k][y * row + x / 8] |= (uint8_t)(128 >> x % 8);
+    size_t len = row * (size_t)n;
+    for (int aslant = 0; aslant < 2; aslant++) {
+        memset(t, 0x5a, sizeof t);
+        uint32_t answer = (aslant ? qik_reconstruct_square : qik_reconstruct_cross)(pings, n, drawn[0], len, drawn[1], len, t, len + 1);
+        must(name, answer == 0 && memcmp(t, drawn[2 + aslant], len) == 0 && t[len] == 0x5a);
+    }
+}
+
+static void reconstructed(void) {
+#define ROWS(...) ((const char *const[]){__VA_ARGS__, 0})
+    grown("a step aslant", ROWS("#.", ".."), ROWS("#.", ".#"), ROWS("#.", ".."), ROWS("#.", ".#"));
+    grown("no step over a gap", ROWS(".#......."), ROWS("###.#####"), ROWS("###......"), ROWS("###......"));
+    grown("a ring, and a point inside it", ROWS("#....", ".....", ".....", ".....", "....."), ROWS("#####", "#...#", "#.#.#", "#...#", "#####"),
+          ROWS("#####", "#...#", "#...#", "#...#", "#####"), ROWS("#####", "#...#", "#...#", "#...#", "#####"));
+    grown("a spiral, from its inner end", ROWS(".......", ".......", "....#..", ".......", "......."), ROWS("#######", "......#", "#####.#", "#.....#", "#######"),
+          ROWS("#######", "......#", "#####.#", "#.....#", "#######"), ROWS("#######", "......#", "#####.#", "#.....#", "#######"));
+    grown("a line aslant", ROWS("....", "....", "..#.", "...."), ROWS("#...", ".#..", "..#.", "...#"), ROWS("....", "....", "..#.", "...."), ROWS("#...", ".#..", "..#.", "...#"));
+    grown("around the end of a row", ROWS("........#", ".........", "........."), ROWS("........#", "#........", "########."), ROWS("........#", ".........", "........."),
+          ROWS("........#", ".........", "........."));
+    grown("nothing to grow", ROWS("...", "..."), ROWS("###", "###"), ROWS("...", "..."), ROWS("...", "..."));
+    grown("no mask", ROWS("...", "..."), ROWS("...", "..."), ROWS("...", "..."), ROWS("...", "..."));
+#undef ROWS
+    static const uint8_t all[] = {0xff, 0x80, 0xff, 0x80}, point[] = {0x00, 0x80, 0, 0}, holed[] = {0xff, 0x00, 0xff, 0x80}, spare[] = {0x00, 0x7f, 0x00, 0x01};
+    static const uint8_t longer[5] = {0}, ones[] = {0xff, 0xff, 0xff, 0xff};
+    for (int aslant = 0; aslant < 2; aslant++) {
+        plain_call *grow = aslant ? qik_reconstruct_square : qik_reconstruct_cross;
+        uint8_t t[5];
+#define REFUSED(name, call, number)                                                                                                                    \
+    memset(t, 0x5a, sizeof t);                                                                                                                         \
+    must(name, (call) == (number) && t[0] == 0x5a && t[1] == 0x5a && t[2] == 0x5a && t[3] == 0x5a && t[4] == 0x5a)
+        REFUSED("SIZE before the marker's length", grow(0, 2, all, 3, all, 3, t, 0), 1);
+        REFUSED("H 257", grow(9, 257, all, 4, all, 4, t, 5), 1);
+        REFUSED("a marker too short, and a mask", grow(9, 2, all, 3, all, 3, t, 0), 2);
+        REFUSED("a marker too long", grow(9, 2, longer, 5, all, 4, t, 5), 2);
+        REFUSED("marker and mask of one length, which is not the frame's", grow(9, 2, longer, 5, longer, 5, t, 5), 2);
+        REFUSED("a mask too short, before MARKER", grow(9, 2, point, 4, holed, 3, t, 0), 2);
+        REFUSED("MARKER before ROOM", grow(9, 2, point, 4, holed, 4, t, 0), 12);
+        REFUSED("ROOM", grow(9, 2, point, 4, all, 4, t, 3), 8);
+#undef REFUSED
+        must("the padding of a marker is no marker point", grow(9, 2, spare, 4, all, 4, t, 5) == 0 && t[0] == 0 && t[1] == 0 && t[2] == 0 && t[3] == 0);
+        must("the padding of a mask is no mask point", grow(9, 2, point, 4, ones, 4, t, 5) == 0 && memcmp(t, all, 4) == 0);
+    }
+}
+
+/* an opening is always a marker inside its own picture, whatever the element; growing is done a second time with nothing changed */
+static void opened_then_grown(uint64_t seed) {
+    for (long round = 0; round < 200; round++) {
+        begin(seed, "opened, then grown", (uint64_t)round);
+        do some_frame();
+        while (!is_sized());
+        for (int b = 0; b < BUFFERS; b++) fresh(b, 0);
+        size_t n = needed(1);
+        do some_picture(SOURCE, 0, 1);
+        while (length[SOURCE] != n);
+        do some_element(ELEMENT, 0);
+        while (qik_open1(w, h, bytes_of(SOURCE), n, bytes_of(ELEMENT), length[ELEMENT], bytes_of(TARGET), n, bytes_of(SCRATCH), n) != 0);
+        plain_call *grow = round % 2 ? qik_reconstruct_square : qik_reconstruct_cross;
+        must("an opening is a marker", grow(w, h, bytes_of(TARGET), n, bytes_of(SOURCE), n, bytes_of(SCRATCH), n) == 0);
+        must("growing twice", grow(w, h, bytes_of(SCRATCH), n, bytes_of(SOURCE), n, bytes_of(TARGET), n) == 0 && memcmp(bytes_of(SCRATCH), bytes_of(TARGET), n) == 0);
+    }
+}
+
 /* each one-bit operation, writer and chained run on a picture and on the same one with ones in its padding: same answer, same bytes */
 static void repadded(void) {
     static const uint8_t clean[] = {0xb5, 0x80, 0x6e, 0x00, 0xff, 0x80}, ones[] = {0xb5, 0xff, 0x6e, 0x7f, 0xff, 0x81};
     static const uint8_t back[] = {3, 1, 2, 0, 0xe0}, next[] = {2, 1, 0, 0, 0x40}, twice[] = {2, 1, 1, 0, 0xc0, 2, 1, 1, 0, 0xc0};
     uint8_t t[2][32], m[2][32];
     const uint8_t *source[2] = {clean, ones};
-    for (int which = 0; which < 13; which++) {
+    static const uint8_t full[] = {0xff, 0x80, 0xff, 0x80, 0xff, 0x80}, point[] = {0x80, 0, 0, 0, 0, 0x80};
+    for (int which = 0; which < 16; which++) {
         uint32_t answer[2];
         memset(t, 0xaa, sizeof t), memset(m, 0xaa, sizeof m);
         for (int i = 0; i < 2; i++) {
@@ -726,7 +831,10 @@ static void repadded(void) {
             case 9: answer[i] = qik_pbm_write(9, 3, s, 6, t[i], 18); break;
             case 10: answer[i] = qik_white_tophat1(9, 3, s, 6, LENT(back), t[i], 8, m[i], 8); break;
             case 11: answer[i] = qik_black_tophat1(9, 3, s, 6, LENT(back), t[i], 8, m[i], 8); break;
-            default: answer[i] = qik_gradient1(9, 3, s, 6, LENT(back), t[i], 8, m[i], 8);
+            case 12: answer[i] = qik_gradient1(9, 3, s, 6, LENT(back), t[i], 8, m[i], 8); break;
+            case 13: answer[i] = qik_reconstruct_cross(9, 3, s, 6, LENT(full), t[i], 8); break;
+            case 14: answer[i] = qik_reconstruct_cross(9, 3, LENT(point), s, 6, t[i], 8); break;
+            default: answer[i] = qik_reconstruct_square(9, 3, LENT(point), s, 6, t[i], 8);
             }
         }
         must("ones in the padding change nothing", answer[0] == 0 && answer[1] == 0 && memcmp(t[0], t[1], 32) == 0 && memcmp(m[0], m[1], 32) == 0);
@@ -746,6 +854,18 @@ static void large(uint64_t seed) {
             memcpy(bytes_of(ELEMENT), trailing, length[ELEMENT] = sizeof trailing);
             fresh(TARGET, length[SOURCE] + 3);
             compared(f, seed, -1);
+        }
+        if (f->kind == GROW) { /* the whole of a serpentine from its one end; the rows between the long ones have a point each */
+            w = 1024, h = 256;
+            fresh(SOURCE, 128 * 256), fresh(ELEMENT, 128 * 256), fresh(TARGET, 128 * 256 + 3);
+            memset(bytes_of(SOURCE), 0, 128 * 256), memset(bytes_of(ELEMENT), 0, 128 * 256);
+            for (int y = 0; y < 256; y++) {
+                if (y % 2 == 0) memset(bytes_of(ELEMENT) + y * 128, 255, 128);
+                else bytes_of(ELEMENT)[y * 128 + (y % 4 == 1 ? 127 : 0)] = y % 4 == 1 ? 1 : 128;
+            }
+            bytes_of(SOURCE)[0] = 128;
+            compared(f, seed, -1);
+            must("a serpentine is grown whole", memcmp(bytes_of(TARGET), bytes_of(ELEMENT), 128 * 256) == 0);
         }
         if (f->kind == CHECK) { /* 31 x 31 by five of 7 x 7, and the same with one cell less */
             links = 5;
@@ -769,20 +889,22 @@ int main(int argc, char **argv) {
     printf("compare: seed %llu, %ld rounds of each of %d functions\n", (unsigned long long)seed, rounds, FUNCTIONS);
     worked();
     netpbm();
+    reconstructed();
+    opened_then_grown(seed);
     repadded();
     begin(seed, "large", 0);
     large(seed);
     printf("%-16s %ld checks, %ld wrong\n", "by hand", fixed, wrong);
     for (int i = 0; i < FUNCTIONS; i++) {
         const struct function *f = &functions[i];
-        long met[12] = {0}, before = differing;
+        long met[13] = {0}, before = differing;
         for (long round = 0; round < rounds; round++) {
             begin(seed, f->name, (uint64_t)round);
             some_call(f);
             met[compared(f, seed, round)]++;
         }
         printf("%-16s %ld calls, %ld differ; answers", f->name, rounds, differing - before);
-        for (int n = 0; n < 12; n++)
+        for (int n = 0; n < 13; n++)
             if (met[n]) printf(" %d: %ld", n, met[n]);
         for (const char *c = f->numbers; *c && rounds >= 500; c++)
             if (!met[*c - '0']) unmet++, printf(" (%d was not met)", *c - '0');

@@ -1,6 +1,6 @@
 /* The library with a fault put in, to see that the comparison finds it: link with -Wl,--wrap=NAME for each function below. FAULT is one of document 01's
  * "errors a good engineer makes here", or one of request (i)'s: 1, dilating without turning the element; 2, starting the result as a copy of the source; 3, turning the padding over with the
- * rest of a row when complementing; 4, keeping the padding of a PBM file. */
+ * rest of a row when complementing; 4, keeping the padding of a PBM file; or one of request (iv)'s: 5, a step aslant by the cross. */
 #include "qiksavlut.h"
 
 #define CALL                                                                                                                                           \
@@ -52,4 +52,12 @@ uint64_t __wrap_qik_pbm_read(const uint8_t *file, size_t file_len, uint8_t *targ
     uint32_t row = (qik_read_w(answer) + 7) / 8, len = row * qik_read_h(answer);
     for (uint32_t i = 0; FAULT == 4 && i < len; i++) target[i] |= file[file_len - len + i];
     return answer;
+}
+
+/* the two lent pictures are marker and mask here */
+uint32_t __real_qik_reconstruct_cross(CALL);
+uint32_t __wrap_qik_reconstruct_cross(CALL);
+
+uint32_t __wrap_qik_reconstruct_cross(CALL) {
+    return (FAULT == 5 ? qik_reconstruct_square : __real_qik_reconstruct_cross)(w, h, source, source_len, element, element_len, target, target_len);
 }

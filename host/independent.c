@@ -224,6 +224,43 @@ int own_hit_or_miss(uint64_t w, uint64_t h, struct lent source, struct lent hit,
     return 0;
 }
 
+/* ---- request (iv): growing a marker inside a mask */
+
+int own_reconstruct(int aslant, uint64_t w, uint64_t h, struct lent marker, struct lent mask, struct lent target) {
+    int no = source_refusal(1, w, h, marker);
+    if (!no) no = source_refusal(1, w, h, mask);
+    if (no) return no;
+    struct picture *from = picture_from(1, w, h, marker.at), *in = picture_from(1, w, h, mask.at), *t = new_picture((int)w, (int)h);
+    struct point {
+        int x, y;
+    } *queue = malloc((size_t)(w * h) * sizeof *queue);
+    size_t first = 0, last = 0;
+    if (!queue) abort();
+    for (int y = 0; y < t->h; y++)
+        for (int x = 0; x < t->w; x++) {
+            if (!*at(from, x, y)) continue;
+            if (!*at(in, x, y)) no = 12;
+            *at(t, x, y) = 1, queue[last++] = (struct point){x, y};
+        }
+    if (!no && target.len < picture_len(1, w, h)) no = 8;
+    /* each point is put into the queue once, when it is set */
+    while (!no && first < last) {
+        struct point p = queue[first++];
+        for (int dy = -1; dy <= 1; dy++)
+            for (int dx = -1; dx <= 1; dx++) {
+                int x = p.x + dx, y = p.y + dy;
+                if ((dx && dy && !aslant) || !inside(t, x, y) || !*at(in, x, y) || *at(t, x, y)) continue;
+                *at(t, x, y) = 1, queue[last++] = (struct point){x, y};
+            }
+    }
+    if (!no) picture_to(1, t, target.at);
+    free(from);
+    free(in);
+    free(t);
+    free(queue);
+    return no;
+}
+
 /* ---- chains */
 
 struct chain {

@@ -28,6 +28,9 @@ int own_flat(int depth, char way, uint64_t w, uint64_t h, struct lent source, st
 int own_weighted(char way, uint64_t w, uint64_t h, struct lent source, struct lent element, struct lent target, struct lent scratch);
 int own_hit_or_miss(uint64_t w, uint64_t h, struct lent source, struct lent hit, struct lent miss, struct lent target);
 
+/* Request (iv): a flood fill with a queue. aslant: the square's eight neighbours, and else the cross's four. */
+int own_reconstruct(int aslant, uint64_t w, uint64_t h, struct lent marker, struct lent mask, struct lent target);
+
 /* By frames: an offset is a sum when a lone echo, dilated link by link in a frame with room on all sides, comes to it; and it has a path when the same is so in
  * the frame that has just the echo and the offset as its corners. */
 struct told own_check_chain(struct lent element, uint64_t links, struct lent chain);

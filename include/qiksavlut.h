@@ -38,7 +38,8 @@ enum qik_refusal {
     QIK_ROOM = 8,    /* a target, scratch or work buffer is too short */
     QIK_FORM = 9,    /* a file under 10 bytes, or a wrong mark, version or kind */
     QIK_JOB = 10,    /* of the program echtext alone; no function here gives it */
-    QIK_NETPBM = 11  /* the header of a PBM or PGM file is broken, or a PGM maximum is not 255 */
+    QIK_NETPBM = 11, /* the header of a PBM or PGM file is broken, or a PGM maximum is not 255 */
+    QIK_MARKER = 12  /* a marker point lies outside the mask */
 };
 
 /* Taking answers apart: qik_number, qik_dx and qik_dy any answer of 32 bits; the others the answer of a read. */
@@ -143,6 +144,18 @@ uint32_t qik_gradient8(uint64_t w, uint64_t h, const uint8_t *source, size_t sou
  * Answer: SIZE, SOURCE, SHAPE (of hit, then of miss), OVERLAP, ROOM in this order, or DONE with the picture in target. */
 uint32_t qik_hit_or_miss(uint64_t w, uint64_t h, const uint8_t *source, size_t source_len, const uint8_t *hit, size_t hit_len,
                          const uint8_t *miss, size_t miss_len, uint8_t *target, size_t target_len);
+
+/* Reconstruction by the cross: the marker grown by the 3 x 3 cross and cut by the mask, again and again until nothing changes. What comes is every point of the mask
+ * that steps along rows and columns inside the mask join to a marker point: of a marker that an opening left, the full outline of each echo that survived.
+ * marker, mask: one-bit pictures, exactly, and no marker point outside the mask; what stands in the padding of either is ignored. target: room for the picture;
+ * no other buffer is needed.
+ * Answer: SIZE, SOURCE (of marker, then of mask), MARKER, ROOM in this order, or DONE with the picture in target. */
+uint32_t qik_reconstruct_cross(uint64_t w, uint64_t h, const uint8_t *marker, size_t marker_len, const uint8_t *mask, size_t mask_len,
+                               uint8_t *target, size_t target_len);
+
+/* Reconstruction by the square: the same, and steps aslant join too. Buffers and answer are those of qik_reconstruct_cross. */
+uint32_t qik_reconstruct_square(uint64_t w, uint64_t h, const uint8_t *marker, size_t marker_len, const uint8_t *mask, size_t mask_len,
+                                uint8_t *target, size_t target_len);
 
 /* Weighted erosion of an 8-bit picture: the least of source at point + offset, less the offset's height, over the offsets that stay in the
  * frame, held to 0..255; 255 where there is none. source: an 8-bit picture, exactly. element: a weighted descriptor. target: room for the picture.

@@ -9,6 +9,7 @@ use lib.IntN.{ℤ, pos, negsuc, subℕ}
 use Rattle.answer.specs.declared.Answer.{Answer}
 use Rattle.answer.specs.declared.Answer.the-variants.{Done, Size, Source, Pad, Shape}
 use Rattle.answer.specs.declared.Answer.the-variants.{Overlap, Chain, Split, Room, Form, Job, Netpbm}
+use Rattle.answer.specs.declared.Answer.the-variants.{Marker}
 use Rattle.answer.specs.declared.Told.{Told}
 use Rattle.answer.specs.Answer.{told, plain, centre}
 
@@ -38,7 +39,8 @@ answerOf t =
     (cond (eqb (t .number) 8) Room
     (cond (eqb (t .number) 9) Form
     (cond (eqb (t .number) 10) Job
-    Netpbm))))))))))
+    (cond (eqb (t .number) 11) Netpbm
+    Marker)))))))))))
 
 answer-back : (a : Answer) → answerOf (told a) ≡ a
 unfolding told plain
@@ -54,6 +56,7 @@ answer-back Room = refl
 answer-back Form = refl
 answer-back Job = refl
 answer-back Netpbm = refl
+answer-back Marker = refl
 
 pub told-one-to-one : (a b : Answer) → told a ≡ told b → a ≡ b
 told-one-to-one a b e = sym (answer-back a) ∙ ap answerOf e ∙ answer-back b

@@ -22,6 +22,7 @@ pub enum Answer {
     Form,
     Job,
     Netpbm,
+    Marker,
 }
 
 // An answer as a person reads it: its number, and dx and dy, which are 0 but for a split.
@@ -61,6 +62,7 @@ fn number_of(a: Answer) -> u32
         Answer::Form => 9,
         Answer::Job => 10,
         Answer::Netpbm => 11,
+        Answer::Marker => 12,
     }
 }
 

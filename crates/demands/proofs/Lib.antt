@@ -16,3 +16,5 @@ pub mod Files
 pub mod Netpbm
 pub mod Alike
 pub mod PointsAlone
+pub mod Grow
+pub mod Reconstruct

@@ -12,3 +12,5 @@ pub mod PnmCalls
 pub mod Netpbm
 pub mod Jobs
 pub mod PointsAlone
+pub mod GrowCalls
+pub mod Grows

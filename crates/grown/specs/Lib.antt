@@ -1,0 +1,4 @@
+pub mod Grown
+pub mod Reached
+pub mod Marker
+pub mod Steps

@@ -1,0 +1,2 @@
+-- How the work goes: byte by byte.
+pub mod Bytes

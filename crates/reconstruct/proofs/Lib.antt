@@ -1,0 +1,4 @@
+pub mod Visits
+pub mod Missing
+pub mod Made
+pub mod Settled

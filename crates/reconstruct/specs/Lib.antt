@@ -1,0 +1,2 @@
+pub mod Reconstruct
+pub mod Steps

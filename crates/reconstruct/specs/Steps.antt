@@ -1,0 +1,2 @@
+-- How the work goes: visits of rows.
+pub mod Visits
