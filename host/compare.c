@@ -648,6 +648,30 @@ static void worked(void) {
     must("a file that is refused", qik_ech_read(many, sizeof many, LENT(t)) == 9);
 }
 
+/* request (v): by one cell of each height, all values side by side. 0 dilates to 0 and 255 erodes to 255; opened no value is louder, and closed none fainter */
+static void ends(void) {
+    uint8_t cell[] = {1, 1, 0, 0, 0x80, 10}, ramp[256], t[256], m[256];
+    for (int v = 0; v < 256; v++) ramp[v] = (uint8_t)v;
+    must("weight 10 on 0 and on 1", qik_weighted_dilate(256, 1, LENT(ramp), LENT(cell), LENT(t)) == 0 && t[0] == 0 && t[1] == 11);
+    must("weight 10 on 255 and on 254", qik_weighted_erode(256, 1, LENT(ramp), LENT(cell), LENT(t)) == 0 && t[255] == 255 && t[254] == 244);
+    must("weight 10 on 5 opened", qik_weighted_open(256, 1, LENT(ramp), LENT(cell), LENT(t), LENT(m)) == 0 && t[5] == 0 && m[5] == 0);
+    must("weight 10 on 250 closed", qik_weighted_close(256, 1, LENT(ramp), LENT(cell), LENT(t), LENT(m)) == 0 && t[250] == 255 && m[250] == 255);
+    int empty = 1, full = 1, opened = 1, closed = 1;
+    for (int g = -127; g <= 127; g++) {
+        cell[5] = (uint8_t)g;
+        empty = empty && qik_weighted_dilate(256, 1, LENT(ramp), LENT(cell), LENT(t)) == 0 && t[0] == 0;
+        full = full && qik_weighted_erode(256, 1, LENT(ramp), LENT(cell), LENT(t)) == 0 && t[255] == 255;
+        opened = opened && qik_weighted_open(256, 1, LENT(ramp), LENT(cell), LENT(t), LENT(m)) == 0;
+        for (int v = 0; v < 256; v++) opened = opened && t[v] <= v;
+        closed = closed && qik_weighted_close(256, 1, LENT(ramp), LENT(cell), LENT(t), LENT(m)) == 0;
+        for (int v = 0; v < 256; v++) closed = closed && t[v] >= v;
+    }
+    must("0 dilated at every height", empty);
+    must("255 eroded at every height", full);
+    must("opened at every height, and no value louder", opened);
+    must("closed at every height, and no value fainter", closed);
+}
+
 /* request (i): a file's text and its raster, written by hand, and what its read answers; W and H where it is done */
 static void pnm(const char *name, int depth, const char *head, const char *raster, size_t raster_len, int number, unsigned pings, unsigned bins) {
     uint8_t file[128], target[16], before[16];
@@ -892,6 +916,7 @@ int main(int argc, char **argv) {
     reconstructed();
     opened_then_grown(seed);
     repadded();
+    ends();
     begin(seed, "large", 0);
     large(seed);
     printf("%-16s %ld checks, %ld wrong\n", "by hand", fixed, wrong);

@@ -1,6 +1,7 @@
 /* The library with a fault put in, to see that the comparison finds it: link with -Wl,--wrap=NAME for each function below. FAULT is one of document 01's
  * "errors a good engineer makes here", or one of request (i)'s: 1, dilating without turning the element; 2, starting the result as a copy of the source; 3, turning the padding over with the
- * rest of a row when complementing; 4, keeping the padding of a PBM file; or one of request (iv)'s: 5, a step aslant by the cross. */
+ * rest of a row when complementing; 4, keeping the padding of a PBM file; or one of request (iv)'s: 5, a step aslant by the cross; or what request (v)
+ * mends: 6, a height above 0 that raises a value of 0 in a weighted dilation. */
 #include "qiksavlut.h"
 
 #define CALL                                                                                                                                           \
@@ -15,6 +16,9 @@ uint64_t __wrap_qik_ech_read(const uint8_t *file, size_t file_len, uint8_t *targ
 
 uint64_t __real_qik_pbm_read(const uint8_t *file, size_t file_len, uint8_t *target, size_t target_len);
 uint64_t __wrap_qik_pbm_read(const uint8_t *file, size_t file_len, uint8_t *target, size_t target_len);
+
+uint32_t __real_qik_weighted_dilate(CALL);
+uint32_t __wrap_qik_weighted_dilate(CALL);
 
 uint32_t __wrap_qik_dilate1(CALL) {
     uint8_t about[256] = {0};
@@ -60,4 +64,19 @@ uint32_t __wrap_qik_reconstruct_cross(CALL);
 
 uint32_t __wrap_qik_reconstruct_cross(CALL) {
     return (FAULT == 5 ? qik_reconstruct_square : __real_qik_reconstruct_cross)(w, h, source, source_len, element, element_len, target, target_len);
+}
+
+uint32_t __wrap_qik_weighted_dilate(CALL) {
+    uint32_t answer = __real_qik_weighted_dilate(w, h, source, source_len, element, element_len, target, target_len);
+    if (FAULT != 6 || answer != QIK_DONE) return answer;
+    const uint8_t *height = element + 4 + element[1] * ((element[0] + 7u) / 8);
+    for (int y = 0; y < (int)h; y++)
+        for (int x = 0; x < (int)w; x++)
+            for (int r = 0; r < element[1]; r++)
+                for (int c = 0; c < element[0]; c++) {
+                    int u = x - (c - element[2]), v = y - (r - element[3]), g = height[r * element[0] + c];
+                    if (g > 127 || u < 0 || u >= (int)w || v < 0 || v >= (int)h || source[v * (int)w + u] != 0) continue;
+                    if (g > target[y * (int)w + x]) target[y * (int)w + x] = (uint8_t)g;
+                }
+    return answer;
 }

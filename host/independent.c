@@ -119,7 +119,7 @@ static int inside(const struct picture *a, int x, int y) { return x >= 0 && x < 
 
 static int held(int v) { return v < 0 ? 0 : v > 255 ? 255 : v; }
 
-/* the least A(p + b) - g(b), or top with no such b; one bit is the same with top 1 */
+/* the least A(p + b) - g(b), where 255 contributes 255 at any height (request (v)), or top with no such b; one bit is the same with top 1 */
 static struct picture *eroded(const struct picture *a, const struct element *e, int top) {
     struct picture *t = new_picture(a->w, a->h);
     for (int y = 0; y < a->h; y++)
@@ -128,7 +128,7 @@ static struct picture *eroded(const struct picture *a, const struct element *e, 
             for (int i = 0; i < e->n; i++) {
                 int u = x + e->b[i].dx, v = y + e->b[i].dy;
                 if (!inside(a, u, v)) continue;
-                int value = *at(a, u, v) - e->b[i].height;
+                int value = *at(a, u, v) == 255 ? 255 : *at(a, u, v) - e->b[i].height;
                 if (!any || value < least) least = value;
                 any = 1;
             }
@@ -137,7 +137,7 @@ static struct picture *eroded(const struct picture *a, const struct element *e, 
     return t;
 }
 
-/* the greatest A(p - b) + g(b), or 0 with no such b */
+/* the greatest A(p - b) + g(b), where 0 contributes 0 at any height, or 0 with no such b */
 static struct picture *dilated(const struct picture *a, const struct element *e) {
     struct picture *t = new_picture(a->w, a->h);
     for (int y = 0; y < a->h; y++)
@@ -146,7 +146,7 @@ static struct picture *dilated(const struct picture *a, const struct element *e)
             for (int i = 0; i < e->n; i++) {
                 int u = x - e->b[i].dx, v = y - e->b[i].dy;
                 if (!inside(a, u, v)) continue;
-                int value = *at(a, u, v) + e->b[i].height;
+                int value = *at(a, u, v) == 0 ? 0 : *at(a, u, v) + e->b[i].height;
                 if (!any || value > greatest) greatest = value;
                 any = 1;
             }

@@ -158,23 +158,25 @@ uint32_t qik_reconstruct_square(uint64_t w, uint64_t h, const uint8_t *marker, s
                                 uint8_t *target, size_t target_len);
 
 /* Weighted erosion of an 8-bit picture: the least of source at point + offset, less the offset's height, over the offsets that stay in the
- * frame, held to 0..255; 255 where there is none. source: an 8-bit picture, exactly. element: a weighted descriptor. target: room for the picture.
+ * frame, held to 0..255; 255 where there is none. A value of 255 contributes 255, whatever the height.
+ * source: an 8-bit picture, exactly. element: a weighted descriptor. target: room for the picture.
  * Answer: SIZE, SOURCE, SHAPE, ROOM in this order, or DONE with the picture in target. */
 uint32_t qik_weighted_erode(uint64_t w, uint64_t h, const uint8_t *source, size_t source_len, const uint8_t *element,
                             size_t element_len, uint8_t *target, size_t target_len);
 
 /* Weighted dilation of an 8-bit picture: the greatest of source at point - offset, plus the offset's height, over the offsets that stay in
- * the frame, held to 0..255; 0 where there is none. Buffers and answer are those of qik_weighted_erode. */
+ * the frame, held to 0..255; 0 where there is none. A value of 0 contributes 0, whatever the height.
+ * Buffers and answer are those of qik_weighted_erode. */
 uint32_t qik_weighted_dilate(uint64_t w, uint64_t h, const uint8_t *source, size_t source_len, const uint8_t *element,
                              size_t element_len, uint8_t *target, size_t target_len);
 
-/* Weighted opening: weighted erosion, then weighted dilation by the same element.
+/* Weighted opening: weighted erosion, then weighted dilation by the same element. No point of target exceeds the source's.
  * Buffers as for qik_weighted_erode; scratch: room for the picture too, and afterwards it holds the eroded picture.
  * Answer: SIZE, SOURCE, SHAPE, ROOM in this order, or DONE with the picture in target. */
 uint32_t qik_weighted_open(uint64_t w, uint64_t h, const uint8_t *source, size_t source_len, const uint8_t *element, size_t element_len,
                            uint8_t *target, size_t target_len, uint8_t *scratch, size_t scratch_len);
 
-/* Weighted closing: weighted dilation, then weighted erosion by the same element.
+/* Weighted closing: weighted dilation, then weighted erosion by the same element. No point of target falls below the source's.
  * Buffers and answer are those of qik_weighted_open; scratch afterwards holds the dilated picture. */
 uint32_t qik_weighted_close(uint64_t w, uint64_t h, const uint8_t *source, size_t source_len, const uint8_t *element,
                             size_t element_len, uint8_t *target, size_t target_len, uint8_t *scratch, size_t scratch_len);

@@ -5,6 +5,7 @@ pub mod Demand2
 pub mod Sets
 pub mod Differences
 pub mod Sums
+pub mod Louder
 pub mod ByNumber
 pub mod Checks
 pub mod Demand3

@@ -1,6 +1,7 @@
 pub mod Demands
 pub mod Calls
 pub mod WeightedCalls
+pub mod Louder
 pub mod HitCalls
 pub mod Chains
 pub mod ChainCalls

@@ -2,7 +2,7 @@
 -- once for the least and for the greatest.
 use Prim.Native.Nat.{ℕ, zero, suc, _≤_, _<_, min, max}
 use mathlib.Core.Path.{_≡_, refl, sym, ap₂, _∙_, subst}
-use mathlib.Core.Bool.{Bool, true, false, cond}
+use mathlib.Core.Bool.{Bool, true, false, _&&_, cond}
 use mathlib.Core.Logic.{_↔_, _⊎_, inl, inr, ⊎-elim}
 use native.Mathlib.Nat.{not-suc-le-zero, le-of-suc-le-suc, eq-or-lt-of-le}
 use native.Mathlib.Omega.{arith}
@@ -116,3 +116,19 @@ module _ {A C : Type 0} (join : A → A → A) (join′ : C → C → C) (h : A 
       carried : (b : Bool) (a : A) → h (cond b a z) ≡ cond b (h a) (h z)
       carried true a = refl
       carried false a = refl
+
+-- to leave a cell out is to take z for it
+pub gather-without : {A : Type 0} (join : A → A → A) (z : A) (B : Shape) (taken kept : ℕ → ℕ → Bool)
+    (value : ℕ → ℕ → A)
+    → gather join z B (λ c r. taken c r && kept c r) value
+    ≡ gather join z B taken (λ c r. cond (kept c r) (value c r) z)
+unfolding gather
+gather-without {A} join z B taken kept value =
+    carried _ _ (λ r. carried _ _ (λ c. without (taken c r) (kept c r) (value c r)) (B .wide)) (B .high)
+  where
+    carried : (f g : ℕ → A) → ((i : ℕ) → f i ≡ g i) → (n : ℕ) → fold join z f n ≡ fold join z g n
+    carried = fold-carried join join (λ a. a) (λ a b. refl) z
+
+    without : (t k : Bool) (a : A) → cond (t && k) a z ≡ cond t (cond k a z) z
+    without true k a = refl
+    without false k a = refl

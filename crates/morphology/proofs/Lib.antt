@@ -6,6 +6,8 @@ pub mod Integers
 pub mod Sets
 pub mod Weights
 pub mod Sums
+pub mod LeftOut
+pub mod Moved
 pub mod Places
 pub mod Runs
 pub mod Tests

@@ -5,6 +5,7 @@ pub mod Turned
 pub mod Order
 pub mod Sets
 pub mod Sums
+pub mod LeftOut
 pub mod Chain
 pub mod Check
 pub mod Demand

@@ -19,7 +19,7 @@ use Rattle.rows.specs.Steps.Fold.{joinBy}
 
 weigh-zero : (grows : Bool) (g v : ℕ) → g ≡ 0 → v ≤ 255 → weighBy grows g v ≡ v
 weigh-zero true g v e l = ap (λ g. weighBy true g v) e ∙ raise-zero v l
-weigh-zero false g v e l = ap (λ g. weighBy false g v) e ∙ lower-zero v
+weigh-zero false g v e l = ap (λ g. weighBy false g v) e ∙ lower-zero v l
 
 -- bytes joined as they are
 zip-zero : (grows : Bool) (g : ℕ) → g ≡ 0 → (l bs : List ℕ) → Bytes bs

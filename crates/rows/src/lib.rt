@@ -10,7 +10,7 @@ ghost use Rattle.basics.specs.Lists.{firsts};
 ghost use Rattle.basics.specs.Zip.{zipIn};
 ghost use Rattle.element.specs.Descriptor.{mostCells};
 ghost use Rattle.element.specs.Record.{cellOn};
-ghost use Rattle.morphology.specs.Weighted.{lower, raise};
+ghost use Rattle.morphology.specs.Weighted.{heldLess, heldMore, lower, raise};
 ghost use Rattle.rows.specs.Steps.Ways.{growsOf, weighBy};
 ghost use Rattle.rows.specs.Steps.Fold.{joinBy, plusBy, minusBy, startBy};
 ghost use Rattle.rows.specs.Steps.Row.{columnsOf, cellRow, foldedRow, placeIn, sourceRow, RowFit};
@@ -52,11 +52,10 @@ fn join_row(grows: bool, t: &mut [u8], by: &[u8])
     }
 }
 
-// A value with a height added, and with one taken away, held to 0..255:
-// the only two functions that know the weighted rule.
+// A value with a height added, and with one taken away, held to 0..255.
 // A height is a byte: 0 to 127 are themselves, 129 to 255 stand for -127 to -1.
-fn raised(g: u8, v: u8) -> u8
-    ensures { λ r. ⌜ r ≡ raise g v ⌝ }
+fn held_more(g: u8, v: u8) -> u8
+    ensures { λ r. ⌜ r ≡ heldMore g v ⌝ }
 {
     if g < element::SIGN_BIT {
         if 255 - g < v { 255 } else { v + g }
@@ -66,8 +65,8 @@ fn raised(g: u8, v: u8) -> u8
     }
 }
 
-fn lowered(g: u8, v: u8) -> u8
-    ensures { λ r. ⌜ r ≡ lower g v ⌝ }
+fn held_less(g: u8, v: u8) -> u8
+    ensures { λ r. ⌜ r ≡ heldLess g v ⌝ }
 {
     if g < element::SIGN_BIT {
         if v < g { 0 } else { v - g }
@@ -75,6 +74,20 @@ fn lowered(g: u8, v: u8) -> u8
         let up = 255 - g + 1;
         if 255 - up < v { 255 } else { v + up }
     }
+}
+
+// What a value contributes to a dilation, and to an erosion: at the end itself, at any height.
+// These two and the sums above are the only functions that know the weighted rule.
+fn raised(g: u8, v: u8) -> u8
+    ensures { λ r. ⌜ r ≡ raise g v ⌝ }
+{
+    if v == 0 { 0 } else { held_more(g, v) }
+}
+
+fn lowered(g: u8, v: u8) -> u8
+    ensures { λ r. ⌜ r ≡ lower g v ⌝ }
+{
+    if v == 255 { 255 } else { held_less(g, v) }
 }
 
 // What a cell of height g makes of a value.

@@ -1,29 +1,17 @@
--- By cases of the sign and of the bound: each is a line of arithmetic against the definition.
--- As `raised`, with the two signs exchanged.
-use Rattle.morphology.specs.Weighted.{lower}
-use borrow.Author.Tests.{lt-ltb, le-ltb}
+-- Stands on `held_less`, for a value below 255.
+-- 255, which no byte is above, is the definition's own end.
+use mathlib.Core.Path.{sym, _∙_}
 use native.Mathlib.Omega.{arith}
+use Rattle.morphology.proofs.Weights.{lower-end, lower-inside}
 use borrow.Author.Needs.{needs}
 use Rattle.rows.proofs.lowered.Statement.{statement}
 use Rattle.rows.proofs.lowered.Tie as tie
 
 returns : tie.Need-returns
-unfolding lower
-returns c = rw (lt-ltb _ _ (c .before .if1 .taken)) (omega arith)
+returns c = sym (lower-end _ _ (omega arith))
 
 returns-2 : tie.Need-returns-2
-unfolding lower
-returns-2 c = simp (lt-ltb _ _ (c .before .if1 .taken))
-
-returns-3 : tie.Need-returns-3
-unfolding lower
-returns-3 c = rw (le-ltb _ _ (c .before .if1 .left)) (omega arith)
-
-returns-4 : tie.Need-returns-4
-unfolding lower
-returns-4 c = rw (le-ltb _ _ (c .before .if1 .left)) (omega arith)
+returns-2 c = c .held-less .ensures ∙ sym (lower-inside _ _ (omega arith))
 
 pub lowered-spec : {M : Type 1} → statement M
-lowered-spec =
-    tie.close (tie.spec (λ c. search needs) (λ c. search needs)
-    (λ c. search needs) (λ c. search needs) returns returns-2 returns-3 returns-4)
+lowered-spec = tie.close (tie.spec (λ c κs. search needs) returns returns-2)

@@ -1,29 +1,17 @@
--- By cases of the sign and of the bound: each is a line of arithmetic against the definition.
--- 255 - g and 255 - g + 1 never wrap, so that a sum is made only where it fits.
-use Rattle.morphology.specs.Weighted.{raise}
-use borrow.Author.Tests.{lt-ltb, le-ltb}
+-- Stands on `held_more`, for a value above 0.
+-- 0 is the definition's own end.
+use mathlib.Core.Path.{sym, _∙_}
 use native.Mathlib.Omega.{arith}
+use Rattle.morphology.proofs.Weights.{raise-end, raise-inside}
 use borrow.Author.Needs.{needs}
 use Rattle.rows.proofs.raised.Statement.{statement}
 use Rattle.rows.proofs.raised.Tie as tie
 
 returns : tie.Need-returns
-unfolding raise
-returns c = rw (lt-ltb _ _ (c .before .if1 .taken)) (omega arith)
+returns c = rw (c .if1 .taken) (sym (raise-end _))
 
 returns-2 : tie.Need-returns-2
-unfolding raise
-returns-2 c = rw (lt-ltb _ _ (c .before .if1 .taken)) (omega arith)
-
-returns-3 : tie.Need-returns-3
-unfolding raise
-returns-3 c = rw (le-ltb _ _ (c .before .if1 .left)) (omega arith)
-
-returns-4 : tie.Need-returns-4
-unfolding raise
-returns-4 c = rw (le-ltb _ _ (c .before .if1 .left)) (omega arith)
+returns-2 c = c .held-more .ensures ∙ sym (raise-inside _ _ (omega arith))
 
 pub raised-spec : {M : Type 1} → statement M
-raised-spec =
-    tie.close (tie.spec (λ c. search needs) (λ c. search needs)
-    (λ c. search needs) (λ c. search needs) returns returns-2 returns-3 returns-4)
+raised-spec = tie.close (tie.spec (λ c κs. search needs) returns returns-2)
