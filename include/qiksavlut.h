@@ -39,7 +39,10 @@ enum qik_refusal {
     QIK_FORM = 9,    /* a file under 10 bytes, or a wrong mark, version or kind */
     QIK_JOB = 10,    /* of the program echtext alone; no function here gives it */
     QIK_NETPBM = 11, /* the header of a PBM or PGM file is broken, or a PGM maximum is not 255 */
-    QIK_MARKER = 12  /* a marker point lies outside the mask */
+    QIK_MARKER = 12, /* a marker point lies outside the mask */
+    QIK_FULL = 13,   /* no room in the element book for a descriptor beside those that stay */
+    QIK_ABSENT = 14, /* the element book holds nothing under this number, or has no such number */
+    QIK_BOOK = 17    /* the lent bytes are no element book, or are damaged */
 };
 
 /* Taking answers apart: qik_number, qik_dx and qik_dy any answer of 32 bits; the others the answer of a read. */
@@ -64,6 +67,15 @@ static inline uint32_t qik_read_w(uint64_t answer) { return (uint32_t)(answer >>
 
 /* The bins of the picture that was read; 0 of a refusal. */
 static inline uint32_t qik_read_h(uint64_t answer) { return (uint32_t)(answer >> 32 & 65535u); }
+
+/* The number of the answer of a get from the element book. */
+static inline uint32_t qik_get_number(uint64_t answer) { return (uint32_t)(answer & 255u); }
+
+/* The place of the descriptor's first byte in the lent book, so that book + place is the descriptor; 0 of a refusal. */
+static inline uint32_t qik_get_place(uint64_t answer) { return (uint32_t)(answer >> 16 & 65535u); }
+
+/* The descriptor's length; 0 of a refusal. */
+static inline uint32_t qik_get_length(uint64_t answer) { return (uint32_t)(answer >> 32 & 65535u); }
 
 /* One-bit erosion: a point of target is set when source is set at point + offset for every offset that stays in the frame.
  * source: a one-bit picture, exactly. element: a descriptor, not weighted. target: room for the picture.
@@ -240,6 +252,29 @@ uint32_t qik_pbm_write(uint64_t w, uint64_t h, const uint8_t *source, size_t sou
 /* Writes a raw PGM file: P5, a line feed, w, a space, h, a line feed, 255, a line feed, the picture. source: an 8-bit picture, exactly. target: room for the
  * file, at most 16 bytes and the picture. Answer: SIZE, SOURCE, ROOM in this order, or DONE with the file in target. */
 uint32_t qik_pgm_write(uint64_t w, uint64_t h, const uint8_t *source, size_t source_len, uint8_t *target, size_t target_len);
+
+/* The element book: descriptors kept under the numbers 0 to 15 in one lent buffer of at least QIK_BOOK_BYTES bytes, 2,000 of them for descriptors. docs/BOOK.md has
+ * its layout. Bytes past QIK_BOOK_BYTES are never read nor written, and a book may be lent in a longer buffer or, later, in a shorter one, down to QIK_BOOK_BYTES. */
+#define QIK_BOOK_BYTES 2036
+
+/* Starts a book that holds nothing, whatever the bytes were.
+ * Answer: ROOM where the buffer is too short, or DONE with QIK_BOOK_BYTES bytes of book written. */
+uint32_t qik_book_start(uint8_t *book, size_t book_len);
+
+/* Keeps a descriptor under a number, in the place of what the number held. element: a descriptor, not weighted, and not a part of book.
+ * Answer: BOOK, ABSENT for a number above 15, SHAPE, FULL where the other numbers' descriptors and this one would exceed 2,000 bytes, in this order, or DONE. */
+uint32_t qik_book_put(uint8_t *book, size_t book_len, uint64_t number, const uint8_t *element, size_t element_len);
+
+/* Gives up what a number holds. Answer: BOOK, ABSENT, or DONE. */
+uint32_t qik_book_remove(uint8_t *book, size_t book_len, uint64_t number);
+
+/* Sets to 0 the bytes of the book that hold nothing. It moves nothing, and changes no answer. Answer: BOOK, or DONE. */
+uint32_t qik_book_tidy(uint8_t *book, size_t book_len);
+
+/* Where the descriptor that a number holds lies in the book: its bytes are an element for any call, until the next put, remove or start.
+ * Answer: BOOK, ABSENT, or DONE. It is packed, number + 65536 * place + 4294967296 * length, and the plain number where it is refused:
+ * qik_get_number, qik_get_place and qik_get_length take it apart. */
+uint64_t qik_book_get(const uint8_t *book, size_t book_len, uint64_t number);
 
 #ifdef __cplusplus
 }

@@ -23,6 +23,9 @@ pub enum Answer {
     Job,
     Netpbm,
     Marker,
+    Full,
+    Absent,
+    Book,
 }
 
 // An answer as a person reads it: its number, and dx and dy, which are 0 but for a split.
@@ -63,6 +66,9 @@ fn number_of(a: Answer) -> u32
         Answer::Job => 10,
         Answer::Netpbm => 11,
         Answer::Marker => 12,
+        Answer::Full => 13,
+        Answer::Absent => 14,
+        Answer::Book => 17,
     }
 }
 

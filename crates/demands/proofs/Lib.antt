@@ -19,3 +19,4 @@ pub mod Alike
 pub mod PointsAlone
 pub mod Grow
 pub mod Reconstruct
+pub mod Book

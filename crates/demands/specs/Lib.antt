@@ -15,3 +15,5 @@ pub mod Jobs
 pub mod PointsAlone
 pub mod GrowCalls
 pub mod Grows
+pub mod BookCalls
+pub mod Books

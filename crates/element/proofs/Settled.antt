@@ -7,6 +7,8 @@ use Rattle.element.proofs.cell.Kinds as cell-kinds
 use Rattle.element.proofs.cell.Reads as cell
 use Rattle.element.proofs.cells_end.Kinds as cells-end-kinds
 use Rattle.element.proofs.cells_end.Reads as cells-end
+use Rattle.element.proofs.well_made.Kinds as well-made-kinds
+use Rattle.element.proofs.well_made.Reads as well-made
 use Rattle.element.proofs.read_element.Kinds as read-element-kinds
 use Rattle.element.proofs.read_element.Reads as read-element
 use Rattle.element.proofs.read_weighted.Kinds as read-weighted-kinds
@@ -19,6 +21,9 @@ cell-settled κs a x y s t p q = settled p q
 
 pub cells-end-settled : Settles 0 cells-end-kinds.ps cells-end-kinds.r cells-end.Learnt
 cells-end-settled κs a x y s t p q = settled p q
+
+pub well-made-settled : Settles 1 well-made-kinds.ps well-made-kinds.r well-made.Learnt
+well-made-settled κs a x y s t p q = settled p q
 
 pub read-element-settled : Settles 1 read-element-kinds.ps read-element-kinds.r read-element.Learnt
 read-element-settled κs a x y s t p q =

@@ -168,7 +168,7 @@ fn cells_made(d: &[u8]) -> bool
 }
 
 // A descriptor with nothing after its rows.
-fn well_made(d: &[u8]) -> bool
+pub fn well_made(d: &[u8]) -> bool
     ensures { λ r. ⌜ r ≡ wellMade (now (d .entry)) ⌝ }
 {
     if cells_made(d) {

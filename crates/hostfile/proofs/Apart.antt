@@ -1,8 +1,8 @@
 -- What C gets of a read is taken apart again into its number, the kind, W and H.
 use Prim.Native.Nat.{ℕ, _+_, _*_, _/_, _^_, _<_}
 use mathlib.Core.Path.{_≡_, ap, _∙_}
-use mathlib.Core.Bool.{true, false, cond}
-use mathlib.Core.List.{List, [], _∷_}
+use mathlib.Core.Bool.{cond}
+use mathlib.Core.List.{List}
 use native.Mathlib.Omega.{arith}
 use borrow.Fn.Kinds.{Dens, resT, endedOf}
 use denote.Triple.Clauses.{AtExit}
@@ -11,9 +11,9 @@ use lib.Bits.{and-mask}
 use lib.Dec.{lit<}
 use lib.ListN.{length}
 use Rattle.answer.specs.Answer.{plain, isDone}
-use Rattle.answer.specs.Refuse.{Test, refuse}
+use Rattle.answer.specs.Refuse.{refuse}
 use Rattle.answer.specs.Packed.{packed}
-use Rattle.answer.proofs.Packed.{packed-plain}
+use Rattle.answer.proofs.Packed.{number-few, number-packed}
 use Rattle.ech.specs.File.{kindOf, pingsOf, binsOf}
 use Rattle.ech.specs.ReadWrite.{fileTests, readAnswer}
 use Rattle.ech.proofs.RoundTrip.{accepted}
@@ -32,23 +32,6 @@ use Rattle.hostfile.proofs.qik_pgm_read.Kinds as pgm-kinds
 use Rattle.hostfile.proofs.qik_pgm_read.Reads as pgm-reads
 use Rattle.hostfile.proofs.ReadPacked.{Packable, packable-if}
 use Rattle.hostfile.proofs.PnmPacked.{small-if}
-
--- ---- a refusal's number is a byte, and has no offset
-abbrev Few : List Test → Type 0
-Few [] = Unit {0}
-Few (t ∷ ts) = (t .1 < 2 ^ 8) × Few ts
-
-number-few : (ts : List Test) → Few ts → refuse ts (plain 0) .number < 2 ^ 8
-unfolding plain
-number-few [] few = lit< tt
-number-few ((true, n) ∷ ts) few = few .0
-number-few ((false, n) ∷ ts) few = number-few ts (few .1)
-
-number-packed : (ts : List Test) → packed (refuse ts (plain 0)) ≡ refuse ts (plain 0) .number
-unfolding plain
-number-packed [] = packed-plain 0
-number-packed ((true, n) ∷ ts) = packed-plain n
-number-packed ((false, n) ∷ ts) = number-packed ts
 
 -- ---- two bytes and two pairs of bytes side by side
 told-apart : (n kind w h : ℕ) → n < 2 ^ 8 → Packable kind w h

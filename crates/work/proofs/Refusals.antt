@@ -10,7 +10,7 @@ use lib.ListN.{length}
 use Rattle.answer.specs.declared.Answer.{Answer}
 use Rattle.answer.specs.declared.Answer.the-variants.{Done, Size, Source, Pad, Shape}
 use Rattle.answer.specs.declared.Answer.the-variants.{Overlap, Chain, Split, Room, Form, Job, Netpbm}
-use Rattle.answer.specs.declared.Answer.the-variants.{Marker}
+use Rattle.answer.specs.declared.Answer.the-variants.{Marker, Full, Absent, Book}
 use Rattle.answer.specs.declared.Told.{Told}
 use Rattle.answer.specs.Answer.{told, plain, isDone}
 use Rattle.answer.specs.Refuse.{refuse}
@@ -144,3 +144,6 @@ number-few Form = omega arith
 number-few Job = omega arith
 number-few Netpbm = omega arith
 number-few Marker = omega arith
+number-few Full = omega arith
+number-few Absent = omega arith
+number-few Book = omega arith

@@ -1,0 +1,3 @@
+pub mod GetPacked
+pub mod Apart
+pub mod Settled

@@ -1,0 +1,10 @@
+pub mod Sums
+pub mod Shares
+pub mod Empty
+pub mod Steps
+pub mod Loops
+pub mod Slides
+pub mod Checks
+pub mod Replaced
+pub mod Settled
+pub mod Worked

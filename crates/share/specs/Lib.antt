@@ -1,0 +1,4 @@
+pub mod Share
+pub mod Maps
+pub mod Work
+pub mod Steps
