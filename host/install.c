@@ -1,4 +1,4 @@
-/* An installer's program: keeps the default element in an element book and opens a picture by the bytes that the book hands back. It exits with 1 if an answer is not
+/* An installer's program: keeps the default element in the display's share of an element book and opens a picture by the bytes that the book hands back. It exits with 1 if an answer is not
  * the one that it expects. The lines from here to the end of `install` stand in docs/BOOK.md too. */
 #include "qiksavlut.h"
 
@@ -12,12 +12,12 @@ static uint8_t book[QIK_BOOK_BYTES]; /* kept from one run to the next, in whatev
 static const uint8_t trailing[] = {31, 1, 30, 0, 0xff, 0xff, 0xff, 0xfe};
 
 static int install(uint64_t w, uint64_t h, const uint8_t *source, size_t len, uint8_t *target, uint8_t *scratch) {
-    uint64_t got = qik_book_get(book, sizeof book, 0);
+    uint64_t got = qik_display_get(book, sizeof book, 0);
     if (qik_get_number(got) == QIK_BOOK) /* no book yet, or a damaged one: whoever owns it starts it afresh */
         if (qik_book_start(book, sizeof book) != QIK_DONE) return 1;
     if (qik_get_number(got) != QIK_DONE) {
-        if (qik_book_put(book, sizeof book, 0, trailing, sizeof trailing) != QIK_DONE) return 1;
-        got = qik_book_get(book, sizeof book, 0);
+        if (qik_display_put(book, sizeof book, 0, trailing, sizeof trailing) != QIK_DONE) return 1;
+        got = qik_display_get(book, sizeof book, 0);
     }
     /* the descriptor's own bytes in the book: good until the next put, remove or start */
     return qik_open1(w, h, source, len, book + qik_get_place(got), qik_get_length(got), target, len, scratch, len) != QIK_DONE;
@@ -33,21 +33,27 @@ int main(void) {
     memset(target, 0, LEN);
     bad |= install(W, 1, source, LEN, target, scratch) || memcmp(target, opened, LEN) != 0; /* the second time it is there */
 
-    /* what is there is used up to the last byte: 36 for the mark and the lengths, then the descriptors */
-    uint64_t got = qik_book_get(book, sizeof book, 0);
+    /* 4 bytes of mark, 16 of lengths, then the display's descriptors */
+    uint64_t got = qik_display_get(book, sizeof book, 0);
     printf("place %u, length %u\n", (unsigned)qik_get_place(got), (unsigned)qik_get_length(got));
-    bad |= qik_get_place(got) != 36 || qik_get_length(got) != sizeof trailing;
+    bad |= qik_get_place(got) != 20 || qik_get_length(got) != sizeof trailing;
 
     /* bytes that the book gave are copied before they are put again: lent buffers do not overlap */
     uint8_t copy[8];
     memcpy(copy, book + qik_get_place(got), sizeof copy);
-    bad |= qik_book_put(book, sizeof book, 3, copy, sizeof copy) != QIK_DONE;
-    bad |= qik_get_number(qik_book_get(book, sizeof book, 16)) != QIK_ABSENT;
-    bad |= qik_book_remove(book, sizeof book, 0) != QIK_DONE;
-    bad |= qik_get_place(qik_book_get(book, sizeof book, 3)) != 36; /* it moved up */
-    bad |= qik_book_tidy(book, sizeof book) != QIK_DONE;
-    book[3] ^= 1;
-    bad |= qik_get_number(qik_book_get(book, sizeof book, 3)) != QIK_BOOK;
+    bad |= qik_display_put(book, sizeof book, 3, copy, sizeof copy) != QIK_DONE;
+    bad |= qik_get_number(qik_display_get(book, sizeof book, 8)) != QIK_ABSENT;
+    bad |= qik_display_remove(book, sizeof book, 0) != QIK_DONE;
+    bad |= qik_get_place(qik_display_get(book, sizeof book, 3)) != 20; /* it moved up */
+    bad |= qik_display_tidy(book, sizeof book) != QIK_DONE;
+
+    /* the export has its own numbers and its own room */
+    bad |= qik_get_number(qik_export_get(book, sizeof book, 3)) != QIK_ABSENT;
+    bad |= qik_export_put(book, sizeof book, 3, trailing, sizeof trailing) != QIK_DONE;
+    bad |= qik_get_place(qik_export_get(book, sizeof book, 3)) != 1036;
+    bad |= qik_get_place(qik_display_get(book, sizeof book, 3)) != 20;
+    book[3] = 1; /* the version of a book that one party had alone */
+    bad |= qik_get_number(qik_display_get(book, sizeof book, 3)) != QIK_BOOK;
     printf(bad ? "install: an answer is not the one that was expected\n" : "install: as expected\n");
     return bad;
 }

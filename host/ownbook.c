@@ -34,75 +34,81 @@ int own_map_remove(struct own_map *m, uint64_t number) {
     return no;
 }
 
-/* ---- the book's bytes: the mark, the lengths, the descriptors in number order with no gap */
+/* ---- the book's bytes: the mark, and for each party the lengths, and the descriptors in number order with no gap */
 
-int own_book_read(const uint8_t *book, size_t book_len, struct own_map *m) {
-    static const uint8_t mark[] = {'E', 'B', 'K', OWN_VERSION};
-    size_t at = 4 + 2 * OWN_NUMBERS;
-    if (book_len < OWN_BOOK || memcmp(book, mark, 4) != 0) return 17;
+static int share_read(const uint8_t *share, struct own_map *m) {
+    size_t at = 2 * OWN_NUMBERS;
     for (int i = 0; i < OWN_NUMBERS; i++) {
-        m->len[i] = book[4 + 2 * i] | (size_t)book[5 + 2 * i] << 8;
-        if (m->len[i] > OWN_BOOK - at) return 17;
-        if (m->len[i] && !own_descriptor(book + at, m->len[i])) return 17;
-        memcpy(m->bytes[i], book + at, m->len[i]);
+        m->len[i] = share[2 * i] | (size_t)share[2 * i + 1] << 8;
+        if (m->len[i] > OWN_SHARE - at) return 17;
+        if (m->len[i] && !own_descriptor(share + at, m->len[i])) return 17;
+        memcpy(m->bytes[i], share + at, m->len[i]);
         at += m->len[i];
     }
     return 0;
 }
 
-/* writes a map over a book, and gives where its last descriptor ends: what lies past it stays */
-static size_t written(uint8_t *book, const struct own_map *m) {
-    size_t at = 4 + 2 * OWN_NUMBERS;
-    memcpy(book, "EBK", 3);
-    book[3] = OWN_VERSION;
+static uint8_t *share_of(uint8_t *book, int party) { return book + 4 + party * OWN_SHARE; }
+
+int own_book_read(const uint8_t *book, size_t book_len, struct own_map m[OWN_PARTIES]) {
+    static const uint8_t mark[] = {'E', 'B', 'K', OWN_VERSION};
+    if (book_len < OWN_BOOK || memcmp(book, mark, 4) != 0) return 17;
+    return share_read(book + 4, m) | share_read(book + 4 + OWN_SHARE, m + 1);
+}
+
+/* writes a map over a share, and gives where its last descriptor ends: what lies past it stays */
+static size_t written(uint8_t *share, const struct own_map *m) {
+    size_t at = 2 * OWN_NUMBERS;
     for (int i = 0; i < OWN_NUMBERS; i++) {
-        book[4 + 2 * i] = (uint8_t)(m->len[i] & 255);
-        book[5 + 2 * i] = (uint8_t)(m->len[i] >> 8);
-        memcpy(book + at, m->bytes[i], m->len[i]);
+        share[2 * i] = (uint8_t)(m->len[i] & 255);
+        share[2 * i + 1] = (uint8_t)(m->len[i] >> 8);
+        memcpy(share + at, m->bytes[i], m->len[i]);
         at += m->len[i];
     }
     return at;
 }
 
 int own_book_start(uint8_t *book, size_t book_len) {
-    static const struct own_map none;
     if (book_len < OWN_BOOK) return 8;
     memset(book, 0, OWN_BOOK);
-    written(book, &none);
+    memcpy(book, "EBK", 3);
+    book[3] = OWN_VERSION;
     return 0;
 }
 
-int own_book_put(uint8_t *book, size_t book_len, uint64_t number, const uint8_t *d, size_t len) {
-    struct own_map m;
-    int no = own_book_read(book, book_len, &m);
-    if (!no) no = own_map_put(&m, number, d, len);
-    if (!no) written(book, &m);
+int own_book_put(uint8_t *book, size_t book_len, int party, uint64_t number, const uint8_t *d, size_t len) {
+    struct own_map m[OWN_PARTIES];
+    int no = own_book_read(book, book_len, m);
+    if (!no) no = own_map_put(&m[party], number, d, len);
+    if (!no) written(share_of(book, party), &m[party]);
     return no;
 }
 
-int own_book_remove(uint8_t *book, size_t book_len, uint64_t number) {
-    struct own_map m;
-    int no = own_book_read(book, book_len, &m);
-    if (!no) no = own_map_remove(&m, number);
-    if (!no) written(book, &m);
+int own_book_remove(uint8_t *book, size_t book_len, int party, uint64_t number) {
+    struct own_map m[OWN_PARTIES];
+    int no = own_book_read(book, book_len, m);
+    if (!no) no = own_map_remove(&m[party], number);
+    if (!no) written(share_of(book, party), &m[party]);
     return no;
 }
 
-int own_book_tidy(uint8_t *book, size_t book_len) {
-    struct own_map m;
-    int no = own_book_read(book, book_len, &m);
-    if (!no)
-        for (size_t i = written(book, &m); i < OWN_BOOK; i++) book[i] = 0;
+int own_book_tidy(uint8_t *book, size_t book_len, int party) {
+    struct own_map m[OWN_PARTIES];
+    int no = own_book_read(book, book_len, m);
+    if (!no) {
+        uint8_t *share = share_of(book, party);
+        for (size_t i = written(share, &m[party]); i < OWN_SHARE; i++) share[i] = 0;
+    }
     return no;
 }
 
-struct own_found own_book_get(const uint8_t *book, size_t book_len, uint64_t number) {
-    struct own_map m;
-    struct own_found f = {own_book_read(book, book_len, &m), 0, 0};
-    if (!f.number) f.number = own_map_get(&m, number);
+struct own_found own_book_get(const uint8_t *book, size_t book_len, int party, uint64_t number) {
+    struct own_map m[OWN_PARTIES];
+    struct own_found f = {own_book_read(book, book_len, m), 0, 0};
+    if (!f.number) f.number = own_map_get(&m[party], number);
     if (f.number) return f;
-    f.place = 4 + 2 * OWN_NUMBERS;
-    for (uint64_t i = 0; i < number; i++) f.place += m.len[i];
-    f.len = m.len[number];
+    f.place = 4 + (size_t)party * OWN_SHARE + 2 * OWN_NUMBERS;
+    for (uint64_t i = 0; i < number; i++) f.place += m[party].len[i];
+    f.len = m[party].len[number];
     return f;
 }

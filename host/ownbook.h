@@ -1,12 +1,13 @@
-/* The element book, independently: document 02's (vi) in plain C. A plain map of numbers to descriptors has the refusals; a call on a book reads the whole book
- * into a map, asks the map, and writes the map back. It shares no code and no table with the library. */
+/* The element book, independently: document 02's (vi) and (vii) in plain C. A plain map of numbers to descriptors has the refusals, one for each party; a call on a book
+ * reads the whole book into the two maps, asks the party's map, and writes that map back. It shares no code and no table with the library. */
 #ifndef OWNBOOK_H
 #define OWNBOOK_H
 
 #include <stddef.h>
 #include <stdint.h>
 
-enum { OWN_NUMBERS = 16, OWN_ROOM = 2000, OWN_VERSION = 1, OWN_BOOK = 4 + 2 * OWN_NUMBERS + OWN_ROOM };
+enum { OWN_DISPLAY, OWN_EXPORT, OWN_PARTIES };
+enum { OWN_NUMBERS = 8, OWN_ROOM = 1000, OWN_VERSION = 2, OWN_SHARE = 2 * OWN_NUMBERS + OWN_ROOM, OWN_BOOK = 4 + OWN_PARTIES * OWN_SHARE };
 
 struct own_map {
     size_t len[OWN_NUMBERS]; /* 0 for none */
@@ -27,13 +28,13 @@ int own_map_put(struct own_map *m, uint64_t number, const uint8_t *d, size_t len
 int own_map_remove(struct own_map *m, uint64_t number);
 int own_map_get(const struct own_map *m, uint64_t number);
 
-/* the book that the bytes hold, or 17 */
-int own_book_read(const uint8_t *book, size_t book_len, struct own_map *m);
+/* the maps that the bytes hold, one for each party, or 17 */
+int own_book_read(const uint8_t *book, size_t book_len, struct own_map m[OWN_PARTIES]);
 
 int own_book_start(uint8_t *book, size_t book_len);
-int own_book_put(uint8_t *book, size_t book_len, uint64_t number, const uint8_t *d, size_t len);
-int own_book_remove(uint8_t *book, size_t book_len, uint64_t number);
-int own_book_tidy(uint8_t *book, size_t book_len);
-struct own_found own_book_get(const uint8_t *book, size_t book_len, uint64_t number);
+int own_book_put(uint8_t *book, size_t book_len, int party, uint64_t number, const uint8_t *d, size_t len);
+int own_book_remove(uint8_t *book, size_t book_len, int party, uint64_t number);
+int own_book_tidy(uint8_t *book, size_t book_len, int party);
+struct own_found own_book_get(const uint8_t *book, size_t book_len, int party, uint64_t number);
 
 #endif

@@ -253,28 +253,34 @@ uint32_t qik_pbm_write(uint64_t w, uint64_t h, const uint8_t *source, size_t sou
  * file, at most 16 bytes and the picture. Answer: SIZE, SOURCE, ROOM in this order, or DONE with the file in target. */
 uint32_t qik_pgm_write(uint64_t w, uint64_t h, const uint8_t *source, size_t source_len, uint8_t *target, size_t target_len);
 
-/* The element book: descriptors kept under the numbers 0 to 15 in one lent buffer of at least QIK_BOOK_BYTES bytes, 2,000 of them for descriptors. docs/BOOK.md has
- * its layout. Bytes past QIK_BOOK_BYTES are never read nor written, and a book may be lent in a longer buffer or, later, in a shorter one, down to QIK_BOOK_BYTES. */
+/* The element book: descriptors of the display and of the export, each under its own numbers 0 to 7 and with its own 1,000 bytes, in one lent buffer of at least QIK_BOOK_BYTES
+ * bytes. docs/BOOK.md has its layout. Bytes past QIK_BOOK_BYTES are never read nor written, and a book may be lent in a longer buffer or, later, in a shorter one, down to QIK_BOOK_BYTES. */
 #define QIK_BOOK_BYTES 2036
 
-/* Starts a book that holds nothing, whatever the bytes were.
+/* Starts a book that holds nothing for either, whatever the bytes were.
  * Answer: ROOM where the buffer is too short, or DONE with QIK_BOOK_BYTES bytes of book written. */
 uint32_t qik_book_start(uint8_t *book, size_t book_len);
 
-/* Keeps a descriptor under a number, in the place of what the number held. element: a descriptor, not weighted, and not a part of book.
- * Answer: BOOK, ABSENT for a number above 15, SHAPE, FULL where the other numbers' descriptors and this one would exceed 2,000 bytes, in this order, or DONE. */
-uint32_t qik_book_put(uint8_t *book, size_t book_len, uint64_t number, const uint8_t *element, size_t element_len);
+/* Keeps a descriptor under a number of the display, in the place of what the number held. element: a descriptor, not weighted, and not a part of book.
+ * Answer: BOOK, ABSENT for a number above 7, SHAPE, FULL where the display's other descriptors and this one would exceed 1,000 bytes, in this order, or DONE. */
+uint32_t qik_display_put(uint8_t *book, size_t book_len, uint64_t number, const uint8_t *element, size_t element_len);
 
-/* Gives up what a number holds. Answer: BOOK, ABSENT, or DONE. */
-uint32_t qik_book_remove(uint8_t *book, size_t book_len, uint64_t number);
+/* Gives up what a number of the display holds. Answer: BOOK, ABSENT, or DONE. */
+uint32_t qik_display_remove(uint8_t *book, size_t book_len, uint64_t number);
 
-/* Sets to 0 the bytes of the book that hold nothing. It moves nothing, and changes no answer. Answer: BOOK, or DONE. */
-uint32_t qik_book_tidy(uint8_t *book, size_t book_len);
+/* Sets to 0 the bytes of the display's share that hold nothing. It moves nothing, and changes no answer. Answer: BOOK, or DONE. */
+uint32_t qik_display_tidy(uint8_t *book, size_t book_len);
 
-/* Where the descriptor that a number holds lies in the book: its bytes are an element for any call, until the next put, remove or start.
+/* Where the descriptor that a number of the display holds lies in the book: its bytes are an element for any call, until the display's next put or remove, or a start.
  * Answer: BOOK, ABSENT, or DONE. It is packed, number + 65536 * place + 4294967296 * length, and the plain number where it is refused:
- * qik_get_number, qik_get_place and qik_get_length take it apart. */
-uint64_t qik_book_get(const uint8_t *book, size_t book_len, uint64_t number);
+ * qik_get_number, qik_get_place and qik_get_length take it apart. place counts from the start of the whole buffer. */
+uint64_t qik_display_get(const uint8_t *book, size_t book_len, uint64_t number);
+
+/* The same for the export: its own numbers, its own 1,000 bytes. Nothing that one of the two does changes an answer or a descriptor of the other. */
+uint32_t qik_export_put(uint8_t *book, size_t book_len, uint64_t number, const uint8_t *element, size_t element_len);
+uint32_t qik_export_remove(uint8_t *book, size_t book_len, uint64_t number);
+uint32_t qik_export_tidy(uint8_t *book, size_t book_len);
+uint64_t qik_export_get(const uint8_t *book, size_t book_len, uint64_t number);
 
 #ifdef __cplusplus
 }

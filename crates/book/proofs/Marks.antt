@@ -1,12 +1,13 @@
 -- The layout of the book, test by test.
 use Prim.Native.Nat.{ℕ, _≤_, _<_}
-use mathlib.Core.Path.{_≡_, refl, sym, ap, ap₂}
+use mathlib.Core.Path.{_≡_, refl, sym, ap, _∙_}
 use mathlib.Core.Bool.{Bool, true, false, _&&_}
 use mathlib.Core.List.{List}
 use borrow.Author.Tests.{eq-eqb, ne-eqb, le-leb, lt-leb}
-use lib.Dec.{eqb}
+use lib.Dec.{leb, eqb}
 use lib.ListN.{length, getD}
 use Rattle.share.specs.Share.{shareMade}
+use Rattle.book.specs.declared.Party.the-variants.{Display, Export}
 use Rattle.book.specs.Book.{numbers, room, version, bookLong, shareOf, marked, bookMade}
 
 -- ---- the mark, byte by byte
@@ -32,19 +33,40 @@ module _ (b : List ℕ) where
   pub book-short : length b < bookLong → false ≡ bookMade b
   unfolding bookMade
   book-short h =
-      ap (λ (t : Bool). t && marked b && shareMade numbers room (shareOf b))
+      ap (λ (t : Bool). t && marked b && shareMade numbers room (shareOf b Display)
+      && shareMade numbers room (shareOf b Export))
       (sym (lt-leb bookLong (length b) h))
 
   module _ (h : bookLong ≤ length b) where
-    book-by : (m e : Bool) → m ≡ marked b → e ≡ shareMade numbers room (shareOf b)
-        → (true && m) && e ≡ bookMade b
+    book-by : (m d e : Bool) → m ≡ marked b → d ≡ shareMade numbers room (shareOf b Display)
+        → e ≡ shareMade numbers room (shareOf b Export) → ((true && m) && d) && e ≡ bookMade b
     unfolding bookMade
-    book-by m e p r =
-        ap₂ (λ (x y : Bool). x && y) (ap₂ (λ (x y : Bool). x && y) (sym (le-leb bookLong (length b) h)) p)
-        r
+    book-by m d e p q r =
+        λ i. ((sym (le-leb bookLong (length b) h) i && p i) && q i) && r i
 
     pub book-unmarked : false ≡ marked b → false ≡ bookMade b
-    book-unmarked p = book-by false _ p refl
+    book-unmarked p = book-by false _ _ p refl refl
 
-    pub book-share : true ≡ marked b → (e : Bool) → e ≡ shareMade numbers room (shareOf b) → e ≡ bookMade b
-    book-share p e r = book-by true e p r
+    module _ (p : true ≡ marked b) where
+      pub book-display : false ≡ shareMade numbers room (shareOf b Display) → false ≡ bookMade b
+      book-display q = book-by true false _ p q refl
+
+      pub book-export : true ≡ shareMade numbers room (shareOf b Display) → (e : Bool)
+          → e ≡ shareMade numbers room (shareOf b Export) → e ≡ bookMade b
+      book-export q e r = book-by true true e p q r
+
+-- a book of another version, as that of one party was, breaks this layout
+pub old-breaks : (b : List ℕ) → (getD b 3 0 ≡ version → ⊥) → bookMade b ≡ false
+unfolding bookMade marked
+old-breaks b h =
+    ap (λ (t : Bool). leb bookLong (length b)
+    && (eqb (getD b 0 0) 69 && eqb (getD b 1 0) 66 && eqb (getD b 2 0) 75 && t)
+    && shareMade numbers room (shareOf b Display) && shareMade numbers room (shareOf b Export))
+    (ne-eqb (getD b 3 0) version h)
+    ∙ no-mark (leb bookLong (length b)) (eqb (getD b 0 0) 69 && eqb (getD b 1 0) 66 && eqb (getD b 2 0) 75)
+    (shareMade numbers room (shareOf b Display)) (shareMade numbers room (shareOf b Export))
+  where
+    no-mark : (x y z w : Bool) → x && (y && false) && z && w ≡ false
+    no-mark true true z w = refl
+    no-mark true false z w = refl
+    no-mark false y z w = refl

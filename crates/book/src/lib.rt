@@ -1,4 +1,4 @@
-// The element book: descriptors kept under numbers in one lent buffer.
+// The element book: descriptors of the display and of the export, kept under numbers in one lent buffer.
 // Nothing is asked of the caller: bytes that are no book, or a damaged one, are refused by BOOK.
 use answer::Answer;
 ghost use mathlib.Core.Path.{_≡_};
@@ -8,23 +8,30 @@ ghost use denote.Ref.{ptr};
 ghost use lib.ListN.{length, drop};
 ghost use Rattle.answer.specs.Answer.{told};
 ghost use Rattle.share.specs.Maps.{Put, Get, Remove, Tidy};
-ghost use Rattle.book.specs.Book.{version, marked, bookMade, startAnswer, started};
+ghost use Rattle.book.specs.Book.{bookLong, shareAt, version, marked, bookMade};
+ghost use Rattle.book.specs.Book.{startAnswer, started};
 ghost use Rattle.book.specs.Book.{bookAnswer, bookHanded, bookAfter, placeIn, FoundAt};
 
-// The numbers are 0 to 15, and the descriptors have 2,000 bytes.
-pub const NUMBERS: usize = 16;
+// Whose numbers they are.
+pub enum Party {
+    Display,
+    Export,
+}
 
-pub const ROOM: usize = 2000;
+// Each party's numbers are 0 to 7, and its descriptors have 1,000 bytes.
+pub const NUMBERS: usize = 8;
 
-// The layout's version.
-const VERSION: u8 = 1;
+pub const ROOM: usize = 1000;
 
-// The bytes before the share, of the share, and of the book.
+// The layout's version: 1 was the book of one party.
+const VERSION: u8 = 2;
+
+// The bytes before the shares, of a share, and of the book.
 const HEAD: usize = 4;
 
 const SHARE: usize = 2 * NUMBERS + ROOM;
 
-pub const BOOK: usize = HEAD + SHARE;
+pub const BOOK: usize = HEAD + 2 * SHARE;
 
 // What is found under a number: the answer, and the place and the length of the descriptor in the book,
 // 0 and 0 where it is refused.
@@ -32,6 +39,16 @@ pub struct Found {
     pub answer: Answer,
     pub place: usize,
     pub length: usize,
+}
+
+// Where a party's share begins.
+fn share_at(party: Party) -> usize
+    ensures { λ r. ⌜ (r ≡ shareAt party) × (r ≤ bookLong) ⌝ }
+{
+    match party {
+        Party::Display => HEAD,
+        Party::Export => HEAD + SHARE,
+    }
 }
 
 // The letters EBK and the version.
@@ -51,7 +68,7 @@ fn is_marked(book: &[u8]) -> bool
     book[3] == VERSION
 }
 
-// The layout.
+// The layout, of both shares whoever asks.
 fn book_made(book: &[u8]) -> bool
     ensures { λ r. ⌜ r ≡ bookMade (now (book .entry)) ⌝ }
 {
@@ -59,7 +76,10 @@ fn book_made(book: &[u8]) -> bool
         return false;
     }
     if is_marked(book) {
-        return share::made(&book[HEAD..BOOK], NUMBERS, ROOM);
+        if share::made(&book[HEAD..HEAD + SHARE], NUMBERS, ROOM) {
+            return share::made(&book[HEAD + SHARE..BOOK], NUMBERS, ROOM);
+        }
+        return false;
     }
     false
 }
@@ -75,7 +95,7 @@ fn set_mark(book: &mut [u8])
     book[3] = VERSION;
 }
 
-// A book that holds nothing, whatever the bytes were; ROOM where the buffer is too short.
+// A book that holds nothing for either party, whatever the bytes were; ROOM where the buffer is too short.
 pub fn start(book: &mut [u8]) -> Answer
     ensures answer { λ r. ⌜ told r ≡ startAnswer (now (book .entry)) ⌝ }
     ensures bytes { λ _. ⌜ now (book .exit) ≡ started (now (book .entry)) ⌝ }
@@ -88,58 +108,68 @@ pub fn start(book: &mut [u8]) -> Answer
     Answer::Done
 }
 
-// The descriptor d under number n: BOOK, ABSENT for a number above 15, SHAPE, FULL.
-pub fn put(book: &mut [u8], n: usize, d: &[u8]) -> Answer
-    ensures answer { λ r. ⌜ told r ≡ bookAnswer (now (book .entry)) (Put n (now (d .entry))) ⌝ }
-    ensures bytes { λ _. ⌜ now (book .exit) ≡ bookAfter (now (book .entry)) (Put n (now (d .entry))) ⌝ }
+// The descriptor d under a party's number n: BOOK, ABSENT for a number above 7, SHAPE, FULL.
+pub fn put(book: &mut [u8], party: Party, n: usize, d: &[u8]) -> Answer
+    ensures answer { λ r. ⌜ told r ≡ bookAnswer (now (book .entry)) party (Put n (now (d .entry))) ⌝ }
+    ensures bytes { λ _. ⌜ now (book .exit) ≡ bookAfter (now (book .entry)) party (Put n (now (d .entry))) ⌝ }
 {
     if book_made(&book[..]) {
-        return share::put(&mut book[HEAD..BOOK], NUMBERS, ROOM, n, d);
+        let at = share_at(party);
+        let end = at + SHARE;
+        return share::put(&mut book[at..end], NUMBERS, ROOM, n, d);
     }
     Answer::Book
 }
 
-// What number n holds, given up: BOOK, ABSENT.
-pub fn remove(book: &mut [u8], n: usize) -> Answer
-    ensures answer { λ r. ⌜ told r ≡ bookAnswer (now (book .entry)) (Remove n) ⌝ }
-    ensures bytes { λ _. ⌜ now (book .exit) ≡ bookAfter (now (book .entry)) (Remove n) ⌝ }
+// What a party's number n holds, given up: BOOK, ABSENT.
+pub fn remove(book: &mut [u8], party: Party, n: usize) -> Answer
+    ensures answer { λ r. ⌜ told r ≡ bookAnswer (now (book .entry)) party (Remove n) ⌝ }
+    ensures bytes { λ _. ⌜ now (book .exit) ≡ bookAfter (now (book .entry)) party (Remove n) ⌝ }
 {
     if book_made(&book[..]) {
-        return share::remove(&mut book[HEAD..BOOK], NUMBERS, ROOM, n);
+        let at = share_at(party);
+        let end = at + SHARE;
+        return share::remove(&mut book[at..end], NUMBERS, ROOM, n);
     }
     Answer::Book
 }
 
-// The spare bytes of the book to 0: BOOK.
-pub fn tidy(book: &mut [u8]) -> Answer
-    ensures answer { λ r. ⌜ told r ≡ bookAnswer (now (book .entry)) Tidy ⌝ }
-    ensures bytes { λ _. ⌜ now (book .exit) ≡ bookAfter (now (book .entry)) Tidy ⌝ }
+// The spare bytes of a party's share to 0: BOOK.
+pub fn tidy(book: &mut [u8], party: Party) -> Answer
+    ensures answer { λ r. ⌜ told r ≡ bookAnswer (now (book .entry)) party Tidy ⌝ }
+    ensures bytes { λ _. ⌜ now (book .exit) ≡ bookAfter (now (book .entry)) party Tidy ⌝ }
 {
     if book_made(&book[..]) {
-        share::tidy(&mut book[HEAD..BOOK], NUMBERS, ROOM);
+        let at = share_at(party);
+        let end = at + SHARE;
+        share::tidy(&mut book[at..end], NUMBERS, ROOM);
         return Answer::Done;
     }
     Answer::Book
 }
 
 // The answer of a get: BOOK, ABSENT.
-fn get_answer(book: &[u8], n: usize) -> Answer
-    ensures { λ r. ⌜ told r ≡ bookAnswer (now (book .entry)) (Get n) ⌝ }
+fn get_answer(book: &[u8], party: Party, n: usize) -> Answer
+    ensures { λ r. ⌜ told r ≡ bookAnswer (now (book .entry)) party (Get n) ⌝ }
 {
     if book_made(book) {
-        return share::absent_refusal(&book[HEAD..BOOK], NUMBERS, ROOM, n);
+        let at = share_at(party);
+        let end = at + SHARE;
+        return share::absent_refusal(&book[at..end], NUMBERS, ROOM, n);
     }
     Answer::Book
 }
 
 // The call beside `get`: its answer, and where the descriptor lies.
-pub fn find(book: &[u8], n: usize) -> Found
-    ensures { λ r. ⌜ FoundAt (now (book .entry)) n r ⌝ }
+pub fn find(book: &[u8], party: Party, n: usize) -> Found
+    ensures { λ r. ⌜ FoundAt (now (book .entry)) party n r ⌝ }
 {
-    let no = get_answer(book, n);
+    let no = get_answer(book, party, n);
     if answer::is_done(no) {
-        let place = HEAD + share::place_of(&book[HEAD..BOOK], NUMBERS, n);
-        let length = share::length_at(&book[HEAD..BOOK], n);
+        let base = share_at(party);
+        let end = base + SHARE;
+        let place = base + share::place_of(&book[base..end], NUMBERS, n);
+        let length = share::length_at(&book[base..end], n);
         return Found {
             answer: no,
             place,
@@ -154,11 +184,11 @@ pub fn find(book: &[u8], n: usize) -> Found
 }
 
 // The descriptor's own bytes in the book, or the empty start of the buffer where `find` refuses.
-pub fn get<'a>(book: &'a [u8], n: usize) -> &'a [u8]
-    ensures bytes { λ r. ⌜ now r ≡ bookHanded (now (book .entry)) (Get n) ⌝ }
-    ensures place { λ r. ⌜ ptr r ≡ placeIn (now (book .entry)) n (ptr (book .entry)) ⌝ }
+pub fn get<'a>(book: &'a [u8], party: Party, n: usize) -> &'a [u8]
+    ensures bytes { λ r. ⌜ now r ≡ bookHanded (now (book .entry)) party (Get n) ⌝ }
+    ensures place { λ r. ⌜ ptr r ≡ placeIn (now (book .entry)) party n (ptr (book .entry)) ⌝ }
 {
-    let at = find(book, n);
+    let at = find(book, party, n);
     let from = at.place;
     let end = from + at.length;
     &book[from..end]

@@ -2,13 +2,21 @@
 // of a get the bytes too, and at the end every byte of the book.
 // tools/cases makes the lines, says what their letters and numbers mean, and makes what must be printed.
 use answer::Answer;
+use book::Party;
 use libc::STDIN_FILENO;
 
-fn got(book: &[u8], n: usize) {
-    let found = book::find(book, n);
+fn party_of(who: usize) -> Party {
+    if who == 1 {
+        return Party::Export;
+    }
+    Party::Display
+}
+
+fn got(book: &[u8], party: Party, n: usize) {
+    let found = book::find(book, party, n);
     let said: Answer = found.answer;
     show::answered(said);
-    show::buffer(b"got", book::get(book, n));
+    show::buffer(b"got", book::get(book, party, n));
 }
 
 // Byte n becomes the first of the element's: a book that is damaged.
@@ -21,24 +29,26 @@ fn damaged(book: &mut [u8], n: usize, element: &[u8]) {
 }
 
 // One call, by its number in the line.
-fn call(what: usize, book: &mut [u8], n: usize, element: &[u8]) {
+fn call(party: Party, what: usize, book: &mut [u8], n: usize, element: &[u8]) {
     match what {
         1 => show::answered(book::start(book)),
-        2 => show::answered(book::put(book, n, element)),
-        3 => show::answered(book::remove(book, n)),
-        4 => show::answered(book::tidy(book)),
-        5 => got(&book[..], n),
+        2 => show::answered(book::put(book, party, n, element)),
+        3 => show::answered(book::remove(book, party, n)),
+        4 => show::answered(book::tidy(book, party)),
+        5 => got(&book[..], party, n),
         _ => damaged(book, n, element),
     }
 }
 
 // A call of a line, and where the next one is.
 fn one(line: &[u8], at: usize, book: &mut [u8]) -> usize {
-    let what = lines::number_at(line, at);
+    let who = lines::number_at(line, at);
+    let what = lines::number_at(line, who.next);
     let n = lines::number_at(line, what.next);
     let mut element = io::buffer();
     let e = lines::buffer_at(line, n.next, &mut element);
-    call(what.value, book, n.value, &element[..e.value]);
+    let party = party_of(who.value);
+    call(party, what.value, book, n.value, &element[..e.value]);
     e.next
 }
 

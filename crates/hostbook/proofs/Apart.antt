@@ -15,12 +15,16 @@ use Rattle.answer.specs.Refuse.{refuse}
 use Rattle.answer.specs.Packed.{packed}
 use Rattle.answer.proofs.Packed.{number-few, number-packed}
 use Rattle.share.specs.Maps.{Get}
+use Rattle.book.specs.declared.Party.{Party}
+use Rattle.book.specs.declared.Party.the-variants.{Display, Export}
 use Rattle.book.specs.Book.{bookTests, bookAnswer, bookHanded, bookPlace}
 use Rattle.book.proofs.Calls.{handed-small}
 use Rattle.hostbook.specs.Get.{getNumber}
 use Rattle.hostbook.specs.Apart.{getApart, getTold}
-use Rattle.hostbook.proofs.qik_book_get.Kinds as kinds
-use Rattle.hostbook.proofs.qik_book_get.Reads as reads
+use Rattle.hostbook.proofs.qik_display_get.Kinds as display-kinds
+use Rattle.hostbook.proofs.qik_display_get.Reads as display-reads
+use Rattle.hostbook.proofs.qik_export_get.Kinds as export-kinds
+use Rattle.hostbook.proofs.qik_export_get.Reads as export-reads
 
 -- a byte, and two pairs of bytes, side by side
 told-apart : (n place long : ℕ) → n < 2 ^ 8 → place < 2 ^ 16 → long < 2 ^ 16
@@ -40,18 +44,24 @@ told-apart n place long small p l = λ i. record { number = number i; place = pl
     long-is : getApart sum .long ≡ long
     long-is = and-mask (sum / 4294967296) 16 ∙ omega (arith, small, p, l)
 
-pub get-apart : (b : List ℕ) (n : ℕ) → getApart (getNumber b n) ≡ getTold b n
+pub get-apart : (b : List ℕ) (p : Party) (n : ℕ) → getApart (getNumber b p n) ≡ getTold b p n
 unfolding getNumber getTold bookAnswer
-get-apart b n =
-    let ts = bookTests b (Get n) in
-    let h = handed-small b n in
-    ap (λ k. getApart (k + bookPlace b n * 2 ^ 16 + length (bookHanded b (Get n)) * 4294967296))
+get-apart b p n =
+    let ts = bookTests b p (Get n) in
+    let h = handed-small b p n in
+    ap (λ k. getApart (k + bookPlace b p n * 2 ^ 16 + length (bookHanded b p (Get n)) * 4294967296))
     (number-packed ts)
-    ∙ told-apart (refuse ts (plain 0) .number) (bookPlace b n) (length (bookHanded b (Get n)))
+    ∙ told-apart (refuse ts (plain 0) .number) (bookPlace b p n) (length (bookHanded b p (Get n)))
     (number-few ts (lit< tt, (lit< tt, tt))) (omega arith) (omega arith)
 
--- so of every number that the contract of `qik_book_get` allows, as the prover reads it
-pub qik-book-get-apart : (κs : Lfts 1) (a : Dens κs kinds.ps) (r : resT kinds.r κs .Denot)
-    (e : AtExit (endedOf 1 kinds.ps kinds.r) κs) → reads.Learnt κs a r e
-    → getApart r ≡ getTold (a .0 .now) (a .1 .0)
-qik-book-get-apart κs a r e p = ap getApart p ∙ get-apart (a .0 .now) (a .1 .0)
+-- so of every number that the contracts of `qik_display_get` and `qik_export_get` allow,
+-- as the prover reads them
+pub qik-display-get-apart : (κs : Lfts 1) (a : Dens κs display-kinds.ps) (r : resT display-kinds.r κs .Denot)
+    (e : AtExit (endedOf 1 display-kinds.ps display-kinds.r) κs) → display-reads.Learnt κs a r e
+    → getApart r ≡ getTold (a .0 .now) Display (a .1 .0)
+qik-display-get-apart κs a r e p = ap getApart p ∙ get-apart (a .0 .now) Display (a .1 .0)
+
+pub qik-export-get-apart : (κs : Lfts 1) (a : Dens κs export-kinds.ps) (r : resT export-kinds.r κs .Denot)
+    (e : AtExit (endedOf 1 export-kinds.ps export-kinds.r) κs) → export-reads.Learnt κs a r e
+    → getApart r ≡ getTold (a .0 .now) Export (a .1 .0)
+qik-export-get-apart κs a r e p = ap getApart p ∙ get-apart (a .0 .now) Export (a .1 .0)

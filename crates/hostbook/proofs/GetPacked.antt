@@ -6,16 +6,17 @@ use native.Mathlib.Omega.{arith}
 use Rattle.answer.specs.Answer.{told}
 use Rattle.answer.specs.Packed.{packed}
 use Rattle.book.specs.declared.Found.{Found}
+use Rattle.book.specs.declared.Party.{Party}
 use Rattle.book.specs.Book.{FoundAt}
 use Rattle.book.proofs.Calls.{found-small}
 use Rattle.hostbook.specs.Get.{getNumber}
 
-module _ (b : List ℕ) (n : ℕ) (r : Found) (f : FoundAt b n r) where
+module _ (b : List ℕ) (p : Party) (n : ℕ) (r : Found) (f : FoundAt b p n r) where
   pub get-packable : (r .place < 2 ^ 16) × (r .length < 2 ^ 16)
-  get-packable = let h = found-small b n r f in (omega arith, omega arith)
+  get-packable = let h = found-small b p n r f in (omega arith, omega arith)
 
   pub get-packed : (k : ℕ) → k ≡ packed (told (r .answer))
-      → k + r .place * 2 ^ 16 + r .length * 4294967296 ≡ getNumber b n
+      → k + r .place * 2 ^ 16 + r .length * 4294967296 ≡ getNumber b p n
   unfolding getNumber
   get-packed k e =
       let number = e ∙ ap packed (f .answer) in

@@ -4,6 +4,7 @@ use mathlib.Core.List.{List}
 use lib.Bits.{bitAnd}
 use lib.ListN.{length}
 use Rattle.share.specs.Maps.{Get}
+use Rattle.book.specs.declared.Party.{Party}
 use Rattle.book.specs.Book.{bookAnswer, bookHanded, bookPlace}
 
 pub record GetTold : Type 0 where
@@ -20,11 +21,11 @@ getApart n =
       long = bitAnd (n / 4294967296) (2 ^ 16 - 1);
     }
 
--- what the get of number n out of the bytes b is told as
-unfoldable pub getTold : List ℕ → ℕ → GetTold
-getTold b n =
+-- what the get of a party's number n out of the bytes b is told as
+unfoldable pub getTold : List ℕ → Party → ℕ → GetTold
+getTold b p n =
     record {
-      number = bookAnswer b (Get n) .number;
-      place = bookPlace b n;
-      long = length (bookHanded b (Get n));
+      number = bookAnswer b p (Get n) .number;
+      place = bookPlace b p n;
+      long = length (bookHanded b p (Get n));
     }

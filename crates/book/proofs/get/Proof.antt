@@ -11,7 +11,7 @@ use Rattle.book.proofs.get.Tie as tie
 
 within : (c : tie.After-find) → let r = c .find .result in
     r .place + r .length ≤ length (c .before .before .args .book .now)
-within c = found-part _ _ _ (c .find .ensures) .0
+within c = found-part _ _ _ _ (c .find .ensures) .0
 
 add-end : tie.Need-add-end
 add-end c = let h = within (c .before) in search needs
@@ -23,7 +23,7 @@ returns : tie.Need-returns
 returns c =
     let f = c .before .before in
     let s = f .before .before .args .book in (
-      found-part _ _ _ (f .find .ensures) .1,
+      found-part _ _ _ _ (f .find .ensures) .1,
       ap (λ (n : ℕ). (s .ptr .0, n + s .ptr .1)) (f .find .ensures .place),
     )
 

@@ -1,11 +1,11 @@
--- Stands on book_made and share's tidy: the share is a part of the bytes that keep the layout.
+-- Stands on book_made and share's tidy: the party's share is a part of the bytes that keep the layout.
 -- Bytes that break it are left as they were.
 use mathlib.Core.Path.{_≡_, refl, sym, _∙_}
 use mathlib.Core.Bool.{true, false}
 use Rattle.answer.specs.Answer.{told}
 use Rattle.share.specs.Maps.{Tidy}
 use Rattle.book.specs.Book.{bookMade}
-use Rattle.book.proofs.Calls.{made-long, part-whole, call-answer, call-after}
+use Rattle.book.proofs.Calls.{part-whole, part-end, call-answer, call-after}
 use Rattle.book.proofs.Calls.{broken-answer, broken-after}
 use borrow.Author.Needs.{needs}
 use Rattle.book.proofs.tidy.Statement.{statement}
@@ -21,25 +21,31 @@ broken : (c : tie.Else1) → bookMade (entry (c .before) .args .book .now) ≡ f
 broken c = sym (c .before .book-made .ensures) ∙ c .if1 .left
 
 part-tidy-end : tie.Need-part-tidy-end
-part-tidy-end c = made-long (entry (c .before) .args .book .now) (kept c)
+part-tidy-end c =
+    let a = entry (c .before .before) .args in
+    part-end (a .book .now) (a .party) _ (c .share-at .ensures .0) (kept (c .before))
 
 tidy-requires : tie.Need-tidy-requires
-tidy-requires c κs = part-whole (entry (c .before .before) .args .book .now) (kept (c .before))
+tidy-requires c κs =
+    let a = entry (c .before .before .before) .args in
+    part-whole (a .book .now) (a .party) _ (c .before .share-at .ensures .0) (kept (c .before .before))
 
 returns : tie.Need-returns
 unfolding told
 returns c =
-    let t = c .before .before .before .before in
+    let at = c .before .before .before .before in
+    let t = at .before in
     let a = entry (t .before) .args in (
-      call-answer (a .book .now) (kept t) Tidy _ refl,
-      call-after (a .book .now) (kept t) Tidy _ (c .before .before .tidy .ensures),
+      call-answer (a .book .now) (a .party) _ (at .share-at .ensures .0) (kept t) Tidy _ refl,
+      call-after (a .book .now) (a .party) _ (at .share-at .ensures .0) (kept t) Tidy _
+          (c .before .before .tidy .ensures),
     )
 
 returns-2 : tie.Need-returns-2
 returns-2 c =
     let a = entry (c .before) .args in (
-      broken-answer (a .book .now) Tidy (broken c),
-      broken-after (a .book .now) Tidy (broken c),
+      broken-answer (a .book .now) (a .party) Tidy (broken c),
+      broken-after (a .book .now) (a .party) Tidy (broken c),
     )
 
 pub tidy-spec : {M : Type 1} → statement M
@@ -47,6 +53,8 @@ tidy-spec =
     tie.close
     (tie.spec
     (λ c κs. search needs)
+    (λ c κs. search needs)
+    (λ c. search needs)
     (λ c. search needs)
     (λ c. search needs)
     part-tidy-end

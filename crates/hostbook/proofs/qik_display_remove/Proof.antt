@@ -3,14 +3,14 @@
 use mathlib.Core.Path.{ap, _∙_}
 use Rattle.answer.specs.Packed.{packed}
 use borrow.Author.Needs.{needs}
-use Rattle.hostbook.proofs.qik_book_remove.Statement.{statement}
-use Rattle.hostbook.proofs.qik_book_remove.Tie as tie
+use Rattle.hostbook.proofs.qik_display_remove.Statement.{statement}
+use Rattle.hostbook.proofs.qik_display_remove.Tie as tie
 
 returns : tie.Need-returns
 returns c =
     let e = c .before .before .before .remove .ensures in
     (c .pack .ensures ∙ ap packed (e .0), e .1)
 
-pub qik-book-remove-spec : {M : Type 1} → statement M
-qik-book-remove-spec =
+pub qik-display-remove-spec : {M : Type 1} → statement M
+qik-display-remove-spec =
     tie.close (tie.spec (λ c κs. search needs) (λ c κs. search needs) (λ c. search needs) returns)

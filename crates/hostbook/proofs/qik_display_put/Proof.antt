@@ -3,14 +3,14 @@
 use mathlib.Core.Path.{ap, _∙_}
 use Rattle.answer.specs.Packed.{packed}
 use borrow.Author.Needs.{needs}
-use Rattle.hostbook.proofs.qik_book_put.Statement.{statement}
-use Rattle.hostbook.proofs.qik_book_put.Tie as tie
+use Rattle.hostbook.proofs.qik_display_put.Statement.{statement}
+use Rattle.hostbook.proofs.qik_display_put.Tie as tie
 
 returns : tie.Need-returns
 returns c =
     let e = c .before .before .before .put .ensures in
     (c .pack .ensures ∙ ap packed (e .0), e .1)
 
-pub qik-book-put-spec : {M : Type 1} → statement M
-qik-book-put-spec =
+pub qik-display-put-spec : {M : Type 1} → statement M
+qik-display-put-spec =
     tie.close (tie.spec (λ c κs. search needs) (λ c κs. search needs) (λ c. search needs) returns)

@@ -4,19 +4,19 @@ use mathlib.Core.Path.{_∙_}
 use native.Mathlib.Omega.{arith}
 use Rattle.hostbook.proofs.GetPacked.{get-packable, get-packed}
 use borrow.Author.Needs.{needs}
-use Rattle.hostbook.proofs.qik_book_get.Statement.{statement}
-use Rattle.hostbook.proofs.qik_book_get.Tie as tie
+use Rattle.hostbook.proofs.get.Statement.{statement}
+use Rattle.hostbook.proofs.get.Tie as tie
 
 returns : tie.Need-returns
 returns c =
     c .pack-found .ensures
-    ∙ get-packed _ _ _ (c .before .before .find .ensures) _ (c .before .pack .ensures)
+    ∙ get-packed _ _ _ _ (c .before .before .find .ensures) _ (c .before .pack .ensures)
 
 pack-found-requires : tie.Need-pack-found-requires
 pack-found-requires c κs =
-    let h = get-packable _ _ _ (c .before .find .ensures) in
+    let h = get-packable _ _ _ _ (c .before .find .ensures) in
     (omega (arith, h .0, h .1), omega (arith, h .0, h .1))
 
-pub qik-book-get-spec : {M : Type 1} → statement M
-qik-book-get-spec =
+pub get-spec : {M : Type 1} → statement M
+get-spec =
     tie.close (tie.spec (λ c κs. search needs) (λ c κs. search needs) pack-found-requires returns)
