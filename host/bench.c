@@ -124,16 +124,17 @@ static void start_element(int w, int h, int column, int row) {
 
 static void set(int c, int r) { element[4 + r * ((element[0] + 7) / 8) + c / 8] |= (uint8_t)(128 >> c % 8); }
 
-enum { SHAPES = 6, SQUARE = 1, DISC = 4, RANDOM = 5 };
+enum { SHAPES = 7, SQUARE = 1, CROSS = 2, DISC = 5, RANDOM = 6 };
 
-static const char *const shapes[SHAPES] = {"31-row", "3 x 3", "8 x 8", "31 x 31", "disc 15", "random 32"};
+static const char *const shapes[SHAPES] = {"31-row", "3 x 3", "cross", "8 x 8", "31 x 31", "disc 15", "random 32"};
 
 static int make_element(int shape) {
-    static const int sizes[SHAPES][2] = {{31, 1}, {3, 3}, {8, 8}, {31, 31}, {31, 31}, {32, 32}};
+    static const int sizes[SHAPES][2] = {{31, 1}, {3, 3}, {3, 3}, {8, 8}, {31, 31}, {31, 31}, {32, 32}};
     int w = sizes[shape][0], h = sizes[shape][1], cells = 0;
     start_element(w, h, shape == 0 ? 30 : w / 2, h / 2);
     for (int r = 0; r < h; r++)
         for (int c = 0; c < w; c++) {
+            if (shape == CROSS && c != 1 && r != 1) continue;
             if (shape == DISC && (c - 15) * (c - 15) + (r - 15) * (r - 15) > 15 * 15) continue;
             if (shape == RANDOM && draw() % 2) continue;
             set(c, r);

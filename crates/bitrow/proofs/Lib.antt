@@ -1,4 +1,4 @@
-pub mod Source
+pub mod Cells
 pub mod Row
-pub mod Packed
+pub mod Made
 pub mod Settled

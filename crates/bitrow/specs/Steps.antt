@@ -1,3 +1,3 @@
--- How the work goes: a row of the result, by way of a byte for each column.
+-- How the work goes: a row of the result, one row of the element after another.
 pub mod Row
-pub mod Columns
+pub mod Added
