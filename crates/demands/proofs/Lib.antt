@@ -20,3 +20,4 @@ pub mod PointsAlone
 pub mod Grow
 pub mod Reconstruct
 pub mod Book
+pub mod Again

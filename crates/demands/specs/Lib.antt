@@ -17,3 +17,4 @@ pub mod GrowCalls
 pub mod Grows
 pub mod BookCalls
 pub mod Books
+pub mod Again

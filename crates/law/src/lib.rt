@@ -1,0 +1,1 @@
+// The law behind the frame rule: definitions and proofs, no code.
