@@ -12,7 +12,7 @@
 
 enum { W = 1024, H = 256, MOST = W * H };
 
-static uint8_t source[MOST], scratch[MOST], target[MOST], wanted[MOST], element[256];
+static uint8_t source[MOST], scratch[MOST], target[MOST], wanted[MOST], element[1024];
 static size_t source_len, element_len;
 static int depth;
 static char way;
@@ -124,14 +124,14 @@ static void start_element(int w, int h, int column, int row) {
 
 static void set(int c, int r) { element[4 + r * ((element[0] + 7) / 8) + c / 8] |= (uint8_t)(128 >> c % 8); }
 
-enum { SHAPES = 7, SQUARE = 1, CROSS = 2, DISC = 5, RANDOM = 6 };
+enum { SHAPES = 9, SQUARE = 1, CROSS = 2, DISC = 5, RANDOM = 6, HOUR = 7 };
 
-static const char *const shapes[SHAPES] = {"31-row", "3 x 3", "cross", "8 x 8", "31 x 31", "disc 15", "random 32"};
+static const char *const shapes[SHAPES] = {"31-row", "3 x 3", "cross", "8 x 8", "31 x 31", "disc 15", "random 32", "61-row", "61 x 61"};
 
 static int make_element(int shape) {
-    static const int sizes[SHAPES][2] = {{31, 1}, {3, 3}, {3, 3}, {8, 8}, {31, 31}, {31, 31}, {32, 32}};
+    static const int sizes[SHAPES][2] = {{31, 1}, {3, 3}, {3, 3}, {8, 8}, {31, 31}, {31, 31}, {32, 32}, {61, 1}, {61, 61}};
     int w = sizes[shape][0], h = sizes[shape][1], cells = 0;
-    start_element(w, h, shape == 0 ? 30 : w / 2, h / 2);
+    start_element(w, h, shape == 0 || shape == HOUR ? w - 1 : w / 2, h / 2);
     for (int r = 0; r < h; r++)
         for (int c = 0; c < w; c++) {
             if (shape == CROSS && c != 1 && r != 1) continue;

@@ -34,7 +34,7 @@ static int chance(int percent) { return below(100) < percent; }
 
 enum { SOURCE, ELEMENT, OTHER, TARGET, SCRATCH, BUFFERS };
 enum { LIBRARY, INDEPENDENT };
-enum { AROUND = 16, MOST = 262144 + 1200 };
+enum { AROUND = 16, MOST = 262144 + 1200, ELEMENT_MOST = 4700, LINKS_MOST = 2700 };
 
 static const char *const buffer_name[BUFFERS] = {"source", "element", "miss or chain", "target", "scratch or second"};
 static uint8_t memory[2][BUFFERS][MOST + 2 * AROUND];
@@ -259,7 +259,7 @@ static size_t put_descriptor(uint8_t *d, int ew, int eh, int share, int weighted
 static size_t damaged(uint8_t *d, size_t len, int weighted) {
     int ew = d[0], eh = d[1], c = below(ew), r = below(eh);
     size_t cells = descriptor_len(ew, eh, 0);
-    static const uint8_t wrong[] = {0, 33, 64, 255};
+    static const uint8_t wrong[] = {0, 65, 128, 255};
     switch (below(weighted ? 12 : 10)) {
     case 0: return len - 1;
     case 1: return len + 1;
@@ -285,14 +285,14 @@ static void some_element(int b, int weighted) {
     static const int shares[] = {0, 100, 100, 60, 25, 5, -1};
     int ew = 1, eh = 1, share = shares[below(7)];
     double points = is_sized() ? (double)w * (double)h : 1;
-    fresh(b, 1200);
+    fresh(b, ELEMENT_MOST);
     switch (below(8)) {
     case 0: break;
-    case 1: ew = from_to(1, 32); break;
-    case 2: eh = from_to(1, 32); break;
+    case 1: ew = from_to(1, 64); break;
+    case 2: eh = from_to(1, 64); break;
     case 3: ew = from_to(1, 8), eh = from_to(1, 8); break;
-    case 4: ew = from_to(1, 32), eh = from_to(1, 32); break;
-    case 5: ew = eh = 32; break;
+    case 4: ew = from_to(1, 64), eh = from_to(1, 64); break;
+    case 5: ew = eh = 64; break;
     case 6: ew = eh = 3; break;
     default: ew = from_to(7, 17), eh = from_to(1, 5);
     }
@@ -302,7 +302,7 @@ static void some_element(int b, int weighted) {
 }
 
 /* the offsets of descriptors well made, as a board */
-enum { FAR = 48, SIDE = 2 * FAR + 1 };
+enum { FAR = 64, SIDE = 2 * FAR + 1 };
 
 static void add_link(uint8_t board[SIDE][SIDE], const uint8_t *d) {
     uint8_t sums[SIDE][SIDE];
@@ -324,7 +324,9 @@ static size_t put_board(uint8_t *d, uint8_t board[SIDE][SIDE]) {
                 left = x < left ? x : left, right = x > right ? x : right;
                 up = y < up ? y : up, down = y > down ? y : down;
             }
-    if (right - left > 31 || down - up > 31) return 0;
+    if (right - left > 63 || down - up > 63) return 0;
+    if (chance(10)) left -= below(64 - (right - left)), right += below(64 - (right - left)); /* unset margins */
+    if (chance(10)) up -= below(64 - (down - up)), down += below(64 - (down - up));
     size_t len = descriptor_len(right - left + 1, down - up + 1, 0);
     memset(d, 0, len);
     d[0] = (uint8_t)(right - left + 1), d[1] = (uint8_t)(down - up + 1), d[2] = (uint8_t)(FAR - left), d[3] = (uint8_t)(FAR - up);
@@ -340,8 +342,8 @@ static void some_chain(void) {
     int n = chance(30) ? 2 : from_to(1, 5), most = n > 3 ? 4 : 6;
     memset(board, 0, sizeof board);
     board[FAR][FAR] = 1;
-    fresh(OTHER, 500);
-    fresh(ELEMENT, 1200);
+    fresh(OTHER, LINKS_MOST);
+    fresh(ELEMENT, ELEMENT_MOST);
     uint8_t *d = bytes_of(OTHER);
     size_t end = 0;
     for (int i = 0; i < n; i++) {
@@ -361,6 +363,7 @@ static void some_chain(void) {
         if (chance(2)) len = damaged(d + end, len, 0);
         if (chance(1)) len = put_descriptor(d + end, 9, 1, 50, 0);
         if (chance(1)) len = put_descriptor(d + end, 1, 9, 50, 0);
+        if (chance(1)) len = put_descriptor(d + end, from_to(1, 64), from_to(9, 64), 50, 0);
         end += len;
     }
     links = (uint64_t)n;
@@ -499,7 +502,7 @@ static void some_call(const struct function *f) {
         some_element(OTHER, 0);
         if (chance(30)) { /* the rest of the hit element's own cells: nothing is shared */
             uint8_t *d = bytes_of(ELEMENT), *o = bytes_of(OTHER);
-            if (length[ELEMENT] >= 4 && d[0] >= 1 && d[0] <= 32 && d[1] >= 1 && d[1] <= 32 && length[ELEMENT] == descriptor_len(d[0], d[1], 0)) {
+            if (length[ELEMENT] >= 4 && d[0] >= 1 && d[0] <= 64 && d[1] >= 1 && d[1] <= 64 && length[ELEMENT] == descriptor_len(d[0], d[1], 0)) {
                 memcpy(o, d, length[OTHER] = length[ELEMENT]);
                 for (size_t i = 4; i < length[OTHER]; i++) o[i] = (uint8_t)~o[i];
                 clear_padding(o + 4, d[0], d[1]);
@@ -624,6 +627,19 @@ static void worked(void) {
     static const uint8_t wide8[] = {8, 1, 0, 0, 0xff}, wide9[] = {9, 1, 0, 0, 0xff, 0x80};
     split("a link 8 wide", qik_check_chain(LENT(wide8), 1, LENT(wide8)), 0, 0, 0);
     split("a link 9 wide", qik_check_chain(LENT(wide9), 1, LENT(wide9)), 6, 0, 0);
+    static const uint8_t one_of_64[12] = {64, 1, 0, 0, 0x80}, hour[] = {61, 1, 60, 0, 255, 255, 255, 255, 255, 255, 255, 0xf8};
+    static uint8_t wide64[516], wide65[13] = {65, 1}, run[16], eroded[16];
+    split("64 wide, one set cell", qik_check_chain(LENT(one_of_64), 1, LENT(lone)), 0, 0, 0);
+    split("a link 64 wide", qik_check_chain(LENT(lone), 1, LENT(one_of_64)), 6, 0, 0);
+    split("a link 65 wide", qik_check_chain(LENT(lone), 1, LENT(wide65)), 4, 0, 0);
+    wide64[0] = wide64[1] = 64, wide64[2] = wide64[3] = 63, wide64[4] = 0x80;
+    split("64 x 64, the offset -63, -63", qik_check_chain(LENT(wide64), 1, LENT(lone)), 7, -63, -63);
+    wide64[2] = wide64[3] = 0, wide64[515] = 1;
+    split("64 x 64, the offset 63, 63", qik_check_chain(LENT(wide64), 1, LENT(lone)), 7, 63, 63);
+    must("65 wide", qik_erode1(128, 1, LENT(run), LENT(wide65), LENT(eroded)) == 4);
+    memset(run, 255, 8); /* 64 pings of an echo that began at the frame's edge: an hour back there is nothing else to see */
+    must("an hour of echo", qik_erode1(128, 1, LENT(run), LENT(hour), LENT(eroded)) == 0 && memcmp(eroded, run, 16) == 0);
+    must("an hour without", qik_dilate1(128, 1, LENT(run), LENT(hour), LENT(eroded)) == 0 && memcmp(eroded, run, 16) == 0);
     static const uint8_t six[] = {1, 1, 0, 0, 128, 1, 1, 0, 0, 128, 1, 1, 0, 0, 128, 1, 1, 0, 0, 128, 1, 1, 0, 0, 128, 1, 1, 0, 0, 128};
     split("5 links", qik_check_chain(LENT(lone), 5, six, 25), 0, 0, 0);
     split("6 links", qik_check_chain(LENT(lone), 6, LENT(six)), 6, 0, 0);
@@ -903,6 +919,13 @@ static void large(uint64_t seed) {
             must("31 x 31 by five of 7 x 7", compared(f, seed, -1) == 0);
             d[4 + 20 * 4] ^= 4;
             must("31 x 31 less one by five of 7 x 7", compared(f, seed, -2) == 7);
+            memset(d, 0, length[ELEMENT] = descriptor_len(64, 64, 0)); /* the same in a corner of 64 x 64 */
+            d[0] = d[1] = 64, d[2] = d[3] = 48;
+            for (int r = 33; r < 64; r++)
+                for (int c = 33; c < 64; c++) set_cell(d, c, r);
+            must("31 x 31 in a corner of 64 x 64", compared(f, seed, -3) == 0);
+            set_cell(d, 0, 0);
+            must("and the offset -48, -48", compared(f, seed, -4) == 7);
         }
     }
 }

@@ -40,17 +40,19 @@ static const char *const call_name[CALLS] = {"book_start", "display_put", "displ
 static const int can[1 + GET][6] = {{0, 8, -1}, {0, 4, 13, 14, 17, -1}, {0, 14, 17, -1}, {0, 17, -1}, {0, 14, 17, -1}};
 static long met[CALLS][18], calls[CALLS], differing[CALLS], damaged_books, moved_books;
 
-static uint8_t element[200];
+static uint8_t element[600];
 static size_t element_len;
 
 static void some_element(void) {
     int w = 1, h = 1;
-    switch (below(5)) {
-    case 0: w = from_to(1, 32), h = from_to(1, 32); break;
+    switch (below(7)) {
+    case 0: w = from_to(1, 64), h = from_to(1, 64); break;
     case 1: w = h = 32; break;
     case 2: w = from_to(25, 32), h = from_to(16, 20); break;
-    case 3: w = from_to(1, 32); break;
-    default: h = from_to(1, 32);
+    case 3: w = from_to(1, 65); break;
+    case 4: h = from_to(1, 65); break;
+    case 5: w = from_to(60, 64), h = from_to(60, 64); break;
+    default: w = from_to(1, 32), h = from_to(1, 32);
     }
     size_t row = (size_t)(w + 7) / 8;
     element_len = 4 + (size_t)h * row;
@@ -136,7 +138,7 @@ static void damaged(void) {
     damaged_books++;
 }
 
-/* seven of the largest, which leave 76 bytes, and then elements of 72 to 80 bytes under the last number: some fit and some are too long. The other party's room is its own */
+/* seven of 132 bytes, which leave 76, and then elements of 72 to 80 bytes under the last number: some fit and some are too long. The other party's room is its own */
 static void filled(int party, uint64_t seed, long round) {
     for (int n = 0; n < OWN_NUMBERS; n++) {
         do some_element();

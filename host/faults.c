@@ -21,7 +21,7 @@ uint32_t __real_qik_weighted_dilate(CALL);
 uint32_t __wrap_qik_weighted_dilate(CALL);
 
 uint32_t __wrap_qik_dilate1(CALL) {
-    uint8_t about[256] = {0};
+    uint8_t about[516] = {0};
     if (FAULT == 1 && __real_qik_dilate1(w, h, source, source_len, element, element_len, target, target_len) == QIK_DONE) {
         size_t row = (element[0] + 7u) / 8;
         about[0] = element[0], about[1] = element[1];

@@ -77,12 +77,12 @@ struct offset {
 
 struct element {
     int w, h, n;
-    struct offset b[1024];
+    struct offset b[4096];
 };
 
 /* the bytes of the descriptor that starts here, weights apart; 0 where it does not say a w and h in range */
 static size_t descriptor_len(struct lent d) {
-    if (d.len < 2 || d.at[0] < 1 || d.at[0] > 32 || d.at[1] < 1 || d.at[1] > 32) return 0;
+    if (d.len < 2 || d.at[0] < 1 || d.at[0] > 64 || d.at[1] < 1 || d.at[1] > 64) return 0;
     return 4 + (size_t)d.at[1] * ((d.at[0] + 7u) / 8);
 }
 
@@ -289,8 +289,8 @@ static int check_refusal(struct lent element, uint64_t links, struct lent chain,
     return read_chain(links, chain, c);
 }
 
-/* no element has an offset further than 31 and no chain a sum further than 35 */
-enum { FAR = 40, SIDE = 2 * FAR + 1 };
+/* no element has an offset further than 63 and no chain a sum further than 35 */
+enum { FAR = 64, SIDE = 2 * FAR + 1 };
 
 /* where a lone echo at (x, y) comes to, in a frame of w by h */
 static void lone_echo(const struct chain *c, int w, int h, int x, int y, uint8_t come[SIDE][SIDE]) {

@@ -3,7 +3,7 @@
 #include <string.h>
 
 int own_descriptor(const uint8_t *d, size_t len) {
-    if (len < 4 || d[0] < 1 || d[0] > 32 || d[1] < 1 || d[1] > 32 || d[2] >= d[0] || d[3] >= d[1]) return 0;
+    if (len < 4 || d[0] < 1 || d[0] > 64 || d[1] < 1 || d[1] > 64 || d[2] >= d[0] || d[3] >= d[1]) return 0;
     size_t row = d[0] / 8u + (d[0] % 8 != 0);
     if (len != 4 + d[1] * row) return 0;
     for (size_t y = 0; y < d[1]; y++)

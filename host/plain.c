@@ -125,8 +125,8 @@ uint32_t plain_check_chain(const uint8_t *element, int links, const uint8_t *cha
         chain += 4 + chain[1];
     }
     reach(link, links, 0, sums);
-    for (int dy = -35; dy <= 35; dy++)
-        for (int dx = -35; dx <= 35; dx++) {
+    for (int dy = -63; dy <= 63; dy++)
+        for (int dx = -63; dx <= 63; dx++) {
             int c = dx + element[2], r = dy + element[3], x = dx + ox, y = dy + oy, offset[2] = {dx, dy};
             int set = c >= 0 && c < element[0] && r >= 0 && r < element[1] && cell(element, c, r);
             int sum = x >= 0 && x < SUMS && y >= 0 && y < SUMS && (sums[y] >> x & 1);

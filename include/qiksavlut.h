@@ -6,7 +6,7 @@
  *   8-bit:   w * h bytes, row after row, 0 is no echo.
  * A source has exactly the bytes of its picture. A target, a scratch or a work buffer has as many or more; its further bytes stay.
  *
- * Elements. A descriptor is: width and height (1 to 32 each), origin column, origin row, one byte each; then the cells, a one-bit picture
+ * Elements. A descriptor is: width and height (1 to 64 each), origin column, origin row, one byte each; then the cells, a one-bit picture
  * of width by height; nothing after. A weighted descriptor goes on with width * height heights, two's complement, -127 to 127, and 0 where
  * the cell is unset. A set cell is the offset (dx, dy) = (column - origin column, row - origin row).
  *
@@ -50,10 +50,10 @@ enum qik_refusal {
 /* The refusal number of an answer; of a plain answer it is the answer itself. */
 static inline uint32_t qik_number(uint32_t answer) { return answer & 255u; }
 
-/* The dx of a SPLIT, -35 to 35; 0 of any other answer. */
+/* The dx of a SPLIT, -63 to 63; 0 of any other answer. */
 static inline int qik_dx(uint32_t answer) { return (int)((answer >> 8 & 255u) ^ 128u) - 128; }
 
-/* The dy of a SPLIT, -35 to 35; 0 of any other answer. */
+/* The dy of a SPLIT, -63 to 63; 0 of any other answer. */
 static inline int qik_dy(uint32_t answer) { return (int)((answer >> 16 & 255u) ^ 128u) - 128; }
 
 /* The refusal number of a read. */
@@ -195,6 +195,7 @@ uint32_t qik_weighted_close(uint64_t w, uint64_t h, const uint8_t *source, size_
 
 /* Whether the chain does what the element does on every picture in every frame.
  * element: a descriptor, not weighted. chain: the descriptors of the links, one after another, each at most 8 x 8; links: their number, 1 to 5.
+ * An element whose set cells span more than 36 columns or 36 rows has no chain that is accepted; unset cells beside them do not count.
  * Answer: SHAPE of the element; CHAIN for the number; of each link in turn SHAPE, then CHAIN; SHAPE where bytes follow the last link; SPLIT; or DONE.
  * The answer is packed, number + 256 * (dx mod 256) + 65536 * (dy mod 256): qik_number, qik_dx and qik_dy take it apart. Of a SPLIT dx and dy are the
  * first offset at fault, lesser dy first, then lesser dx; of any other answer they are 0, so that it is the plain number. */

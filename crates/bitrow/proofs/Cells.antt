@@ -1,12 +1,12 @@
--- The cells of a row word of 64, of which a shorter one fills the first; and folds over fewer cells.
-use Prim.Native.Nat.{ℕ, zero, suc, _+_, _-_, _*_, _%_, _^_, _≤_, _<_, min}
+-- The first cells of a row word, and folds over fewer cells.
+use Prim.Native.Nat.{ℕ, zero, suc, _+_, _-_, _≤_, _<_, min}
 use mathlib.Core.Path.{_≡_, refl, ap, ap₂, _∙_}
 use mathlib.Core.Bool.{Bool, false, cond, _&&_}
 use native.Mathlib.Omega.{arith}
 use native.Mathlib.Nat.{add-suc, add-zero}
 use lib.Dec.{eqb}
 use Rattle.basics.specs.Bits.{bit}
-use Rattle.basics.proofs.Bits.{bit-lt, bit-mod, bit-and, bit-shl}
+use Rattle.basics.proofs.Bits.{bit-lt, bit-and}
 use Rattle.element.specs.Descriptor.{mostCells}
 use Rattle.element.specs.Record.{cellOn}
 use Rattle.morphology.specs.Operations.{Change, within}
@@ -15,27 +15,15 @@ use Rattle.packedline.specs.Steps.Cells.{cellOn64, runWord}
 use Rattle.packedline.proofs.Covers.{run-on, run-off}
 use Rattle.bitrow.specs.Steps.Added.{maskedOf}
 
--- ---- the word in the upper digits, and no more than `wide` cells of it
-upper : (word c : ℕ) → c < mostCells → cellOn64 (word * 2 ^ (64 - mostCells)) c ≡ cellOn word c
-upper word c h =
-    ap (λ n. eqb n 1)
-    (ap (bit (word * 2 ^ (64 - mostCells))) (parts c h) ∙ bit-shl word (64 - mostCells) (mostCells - 1 - c))
-  where
-    parts : (c : ℕ) → c < mostCells → 63 - c ≡ 64 - mostCells + (mostCells - 1 - c)
-    parts c h = omega arith
-
+-- ---- no more than `wide` cells of a word
 module _ (word wide c : ℕ) where
-  abbrev long : ℕ
-  long = word * 2 ^ (64 - mostCells)
-
   pub masked-on : wide ≤ mostCells → c < wide → cellOn64 (maskedOf word wide) c ≡ cellOn word c
   unfolding maskedOf
   masked-on few h =
       ap (λ n. eqb n 1)
-      (bit-and (long % 2 ^ 64) (runWord wide) (63 - c)
-      ∙ ap₂ min (bit-mod long 64 (63 - c) (omega arith)) (run-on wide (63 - c) (omega arith) (omega arith))
-      ∙ least (bit long (63 - c)) (bit-lt long (63 - c)))
-      ∙ upper word c (omega arith)
+      (bit-and word (runWord wide) (63 - c)
+      ∙ ap (min (bit word (63 - c))) (run-on wide (63 - c) (omega arith) (omega arith))
+      ∙ least (bit word (63 - c)) (bit-lt word (63 - c)))
     where
       least : (n : ℕ) → n < 2 → min n 1 ≡ n
       least n h = omega arith
@@ -44,9 +32,9 @@ module _ (word wide c : ℕ) where
   unfolding maskedOf
   masked-off h k =
       ap (λ n. eqb n 1)
-      (bit-and (long % 2 ^ 64) (runWord wide) (63 - c)
-      ∙ ap (min (bit (long % 2 ^ 64) (63 - c))) (run-off wide (63 - c) (omega arith) (omega arith))
-      ∙ least (bit (long % 2 ^ 64) (63 - c)))
+      (bit-and word (runWord wide) (63 - c)
+      ∙ ap (min (bit word (63 - c))) (run-off wide (63 - c) (omega arith) (omega arith))
+      ∙ least (bit word (63 - c)))
     where
       least : (n : ℕ) → min n 0 ≡ 0
       least n = omega arith

@@ -17,11 +17,11 @@ pub struct Task {
     pub grows: bool,
 }
 
-// The first `wide` cells of a row word, as one of 64 cells: what stands past them never counts.
-fn masked(word: RowWord, wide: usize) -> u64
+// The first `wide` cells of a row word: what stands past them never counts.
+fn masked(word: RowWord, wide: usize) -> RowWord
     ensures { λ r. ⌜ r ≡ maskedOf word wide ⌝ }
 {
-    ((word as u64) << (packedline::CELLS - element::MOST_CELLS)) & packedline::run_word(wide)
+    word & packedline::run_word(wide)
 }
 
 // One row of the element, if the source row that it leads to from row y lies in the frame.

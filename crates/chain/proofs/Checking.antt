@@ -9,7 +9,7 @@ use native.Mathlib.Nat.{le-refl}
 use borrow.Author.Tests.{leb-true, eqb-true}
 use lib.Dec.{leb, ltb, eqb, lit≤}
 use lib.ListN.{length, getD, take}
-use lib.Seq.{getD-drop}
+use lib.Seq.{getD-drop, getD-take}
 use Rattle.basics.proofs.Tests.{both}
 use Rattle.answer.specs.declared.Told.{Told}
 use Rattle.answer.specs.declared.Answer.the-variants.{Chain}
@@ -19,14 +19,15 @@ use Rattle.answer.proofs.Order.{Numbered}
 use Rattle.answer.proofs.Lent.{all-done}
 use Rattle.element.specs.declared.Element.{Element}
 use Rattle.element.specs.Descriptor.{mostCells, wideOf, highOf, wellMade, shapeIn, cellAt, descriptorLength}
-use Rattle.element.specs.Record.{elementOf, shapeOf}
+use Rattle.element.specs.Record.{cellOn, elementOf, shapeOf}
 use Rattle.basics.specs.Bytes.{Bytes}
 use Rattle.element.proofs.WellMade.{cells-tell, made-cells}
 use Rattle.element.proofs.Cells.{cell-same}
 use Rattle.morphology.specs.Chain.{Fits, AllFit, Chained, mostLinkCells, mostLinks}
 use Rattle.morphology.specs.Check.{checkOf}
 use Rattle.morphology.proofs.Trim.{trim, trim-same, check-trim}
-use Rattle.reach.specs.Steps.Links.{shapesOf}
+use Rattle.reach.specs.declared.Link.{Link}
+use Rattle.reach.specs.Steps.Links.{linkOf, linkShape, shapesOf}
 use Rattle.chain.specs.declared.Links.{Links}
 use Rattle.chain.specs.Reading.{firstOf, restOf, counted, small}
 use Rattle.chain.specs.Reading.{linkTests, chainTests, checkTests, linksIn}
@@ -112,18 +113,31 @@ record-fits d n f = record {
   origin-row-in = f .origin-row-in;
 }
 
-records-fit : (k : ℕ) (d : List ℕ) (n : ℕ) → AllFit n (linksIn k d) → AllFit n (shapesOf (elementsIn k d))
+-- those of the links, as the check holds them
+abbrev heldIn : ℕ → List ℕ → List Link
+heldIn k d = map linkOf (elementsIn k d)
+
+held-fits : (d : List ℕ) (n : ℕ) → Fits n (shapeIn d) → Fits n (linkShape (linkOf (elementOf d)))
+unfolding shapeIn shapeOf elementOf linkOf
+held-fits d n f = record {
+  few-columns = f .few-columns;
+  few-rows = f .few-rows;
+  origin-column-in = f .origin-column-in;
+  origin-row-in = f .origin-row-in;
+}
+
+records-fit : (k : ℕ) (d : List ℕ) (n : ℕ) → AllFit n (linksIn k d) → AllFit n (shapesOf (heldIn k d))
 unfolding linksIn elementsIn
 records-fit zero d n f = tt
-records-fit (suc k) d n f = (record-fits (firstOf d) n (f .0), records-fit k (restOf d) n (f .1))
+records-fit (suc k) d n f = (held-fits (firstOf d) n (f .0), records-fit k (restOf d) n (f .1))
 
-records-long : (k : ℕ) (d : List ℕ) → length (shapesOf (elementsIn k d)) ≡ length (linksIn k d)
+records-long : (k : ℕ) (d : List ℕ) → length (shapesOf (heldIn k d)) ≡ length (linksIn k d)
 unfolding linksIn elementsIn
 records-long zero d = refl
 records-long (suc k) d = ap suc (records-long k (restOf d))
 
 records-chained : (element chain : List ℕ) (k : ℕ) → Chained (shapeIn element) (linksIn k chain)
-    → Chained (shapeOf (elementOf element)) (shapesOf (elementsIn k chain))
+    → Chained (shapeOf (elementOf element)) (shapesOf (heldIn k chain))
 records-chained element chain k C =
     record {
       element = record-fits element mostCells (C .element);
@@ -131,6 +145,11 @@ records-chained element chain k C =
       some-links = subst (λ n. 1 ≤ n) (sym (records-long k chain)) (C .some-links);
       few-links = subst (λ n. n ≤ mostLinks) (sym (records-long k chain)) (C .few-links);
     }
+
+taken-map : (n : ℕ) (es : List Element) → take n (map linkOf es) ≡ map linkOf (take n es)
+taken-map zero es = refl
+taken-map (suc n) [] = refl
+taken-map (suc n) (e ∷ es) = ap (λ (ls : List Link). linkOf e ∷ ls) (taken-map n es)
 
 -- ---- the records that are read stand for the shapes of the bytes
 
@@ -154,14 +173,25 @@ unfolding shapeIn shapeOf elementOf
 shape-trim d b e =
     trim-same (shapeOf (elementOf d)) (cellAt d) (λ c r hc hr. cell-same d b (made-cells d e) c r hc hr)
 
+-- so do the links: the rows that are not held lie past the last of a small one
+held-trim : (d : List ℕ) → Bytes d → wellMade d ≡ true → highOf d ≤ mostLinkCells
+    → trim (linkShape (linkOf (elementOf d))) ≡ trim (shapeIn d)
+unfolding shapeIn shapeOf elementOf linkOf
+held-trim d b e h =
+    trim-same (linkShape (linkOf (elementOf d))) (cellAt d) (λ c r hc hr.
+    ap (λ word. cellOn word c) (getD-take mostLinkCells (elementOf d .rows) r 0 (omega arith))
+    ∙ cell-same d b (made-cells d e) c r hc hr)
+
 links-trim : (k : ℕ) (d : List ℕ) → Bytes d → refuse (linkTests k d) (plain 0) ≡ plain 0
-    → map trim (shapesOf (elementsIn k d)) ≡ map trim (linksIn k d)
+    → map trim (shapesOf (heldIn k d)) ≡ map trim (linksIn k d)
 unfolding linkTests elementsIn linksIn
 links-trim zero d b e = refl
 links-trim (suc k) d b e =
     let p = passed-here (wellMade (firstOf d))
     (small (wideOf (firstOf d)) (highOf (firstOf d))) (linkTests k (restOf d)) e in
-    ap₂ (λ s t. s ∷ t) (shape-trim (firstOf d) (first-bytes d b) (p .0))
+    let q = both (leb (wideOf (firstOf d)) mostLinkCells)
+    (leb (highOf (firstOf d)) mostLinkCells) (p .1 .0) in
+    ap₂ (λ s t. s ∷ t) (held-trim (firstOf d) (first-bytes d b) (p .0) (leb-true _ _ (q .1)))
     (links-trim k (restOf d) (rest-bytes d b) (p .1 .1))
 
 -- ---- the check, by what is met first
@@ -213,20 +243,24 @@ module _ (element chain : List ℕ) (k : ℕ) (after : Told) where
           pub check-passed : after ≡ refuse (checkTests element k chain) after
           check-passed = sym (none-after (linkTests k chain) (numbered k chain) passed after) ∙ links-opened
 
-          module _ (whole : Element) (is : whole ≡ elementOf element) where
-            pub chained : Chained (shapeOf whole) (shapesOf (take k (ls .all)))
+          module _ (whole : Element) (is : whole ≡ elementOf element)
+              (held : List Link) (so-held : held ≡ map linkOf (ls .all)) where
+            held-are : take k held ≡ heldIn k chain
+            held-are = ap (take k) so-held ∙ taken-map k (ls .all) ∙ ap (map linkOf) links-are
+
+            pub chained : Chained (shapeOf whole) (shapesOf (take k held))
             chained =
-                subst (λ (w : Element). Chained (shapeOf w) (shapesOf (take k (ls .all)))) (sym is)
-                (subst (λ (es : List Element). Chained (shapeOf (elementOf element)) (shapesOf es))
-                (sym links-are)
+                subst (λ (w : Element). Chained (shapeOf w) (shapesOf (take k held))) (sym is)
+                (subst (λ (es : List Link). Chained (shapeOf (elementOf element)) (shapesOf es))
+                (sym held-are)
                 (records-chained element chain k (well-chained element chain k nothing-refused)))
 
             pub same-check : Bytes element → Bytes chain
-                → checkOf (shapeOf whole) (shapesOf (take k (ls .all)))
+                → checkOf (shapeOf whole) (shapesOf (take k held))
                 ≡ checkOf (shapeIn element) (linksIn k chain)
             same-check be bc =
-                ap₂ (λ (w : Element) (es : List Element). checkOf (shapeOf w) (shapesOf es)) is links-are
-                ∙ check-trim (shapeOf (elementOf element)) (shapesOf (elementsIn k chain))
+                ap₂ (λ (w : Element) (es : List Link). checkOf (shapeOf w) (shapesOf es)) is held-are
+                ∙ check-trim (shapeOf (elementOf element)) (shapesOf (heldIn k chain))
                 ∙ ap₂ (λ E Bs. checkOf E Bs) (shape-trim element be made) (links-trim k chain bc passed)
                 ∙ sym (check-trim (shapeIn element) (linksIn k chain))
 

@@ -77,8 +77,8 @@ fn read_links(none: [Element; MOST_LINKS], d: &[u8], k: usize) -> Links
 }
 
 // The check, and the elements that it read of the links: where it is done, the first `links` of them.
-// Nothing calls itself: on x86-64 it takes below 5,120 bytes of stack,
-// whatever the input, and some milliseconds for the largest.
+// Nothing calls itself: its stack is the same whatever the input (docs/HOST.md has it),
+// and it takes some milliseconds for the largest.
 pub fn checked_links(element: &[u8], links: usize, chain: &[u8]) -> Links
     ensures { λ r. ⌜ ReadAs (checked (now (element .entry)) links (now (chain .entry)))
         links (now (chain .entry)) r ⌝ }
@@ -105,8 +105,9 @@ pub fn checked_links(element: &[u8], links: usize, chain: &[u8]) -> Links
             all,
         };
     }
+    let held = reach::links_of(all);
     Links {
-        answer: faults::check(e, all, links),
+        answer: faults::check(e, held, links),
         all,
     }
 }

@@ -9,6 +9,7 @@ pub mod Louder
 pub mod ByNumber
 pub mod Checks
 pub mod Demand3
+pub mod Spans
 pub mod Runs
 pub mod ChainedRun
 pub mod Packing

@@ -5,6 +5,7 @@ pub mod Louder
 pub mod HitCalls
 pub mod Chains
 pub mod ChainCalls
+pub mod Spans
 pub mod RunCalls
 pub mod Runs
 pub mod FileCalls

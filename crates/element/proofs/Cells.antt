@@ -31,12 +31,12 @@ word-cell : (d : List ℕ) → Bytes d → (at n c : ℕ) → c < mostCells → 
     → bit (wordOf d at n) (mostCells - 1 - c) ≡ bit (getD d (at + c / 8) 0) (7 - c % 8)
 unfolding wordOf wordByte
 word-cell d bytes at n c h l =
-    ap (bit (digits 8 (wordByte d at n) 4)) (place c h)
-    ∙ bit-digits 8 (wordByte d at n) (word-byte-lt d bytes at n) 4 (c / 8)
+    ap (bit (digits 8 (wordByte d at n) 8)) (place c h)
+    ∙ bit-digits 8 (wordByte d at n) (word-byte-lt d bytes at n) 8 (c / 8)
     (7 - c % 8) (omega arith) (omega arith)
     ∙ ap (λ b. bit (cond b (getD d (at + c / 8) 0) 0) (7 - c % 8)) (lt-ltb (c / 8) n l)
   where
-    place : (c : ℕ) → c < 32 → 31 - c ≡ 8 * (4 - 1 - c / 8) + (7 - c % 8)
+    place : (c : ℕ) → c < 64 → 63 - c ≡ 8 * (8 - 1 - c / 8) + (7 - c % 8)
     place c h = omega arith
 
 module _ (d : List ℕ) (bytes : Bytes d) (made : cellsMade d ≡ true)

@@ -13,7 +13,7 @@ use Rattle.element.specs.Shape.{Shape, signBit}
 
 -- the limit: cells across, and cells down
 abbrev pub mostCells : ℕ
-mostCells = 32
+mostCells = 64
 
 -- width, height, origin column and origin row, one byte each
 abbrev pub wideOf : List ℕ → ℕ
@@ -45,7 +45,7 @@ cellAt d column row = eqb (valueAt OneBit (cellsOf d) (wideOf d) column row) 1
 abbrev pub heightAt : List ℕ → ℕ → ℕ → ℕ
 heightAt d column row = valueAt EightBit (heightsOf d) (wideOf d) column row
 
--- width and height 1 to 32 each, origin column below w, origin row below h
+-- width and height 1 to 64 each, origin column below w, origin row below h
 unfoldable pub headMade : ℕ → ℕ → ℕ → ℕ → Bool
 headMade w h column row =
     (leb 1 w && leb w mostCells) && (leb 1 h && leb h mostCells) && (ltb column w && ltb row h)

@@ -21,13 +21,13 @@ ghost use Rattle.element.specs.Record.{cellOn, originOf, elementOf, noth
 ghost use Rattle.element.specs.Steps.Words.{wordByte, wordOf, rowWords};
 
 // The limit: cells across, and cells down. A row word has a bit for each.
-pub const MOST_CELLS: usize = 32;
+pub const MOST_CELLS: usize = 64;
 
 // The sign of a height's byte, which alone stands for no height.
 pub const SIGN_BIT: u8 = 128;
 
 // A row of cells: the first cell is the highest bit.
-pub type RowWord = u32;
+pub type RowWord = u64;
 
 // An element's size and origin.
 pub struct Outline {

@@ -20,6 +20,7 @@ use Rattle.morphology.specs.Check.{still, hasTest, sumTest, pathTest, faultTest
 use Rattle.morphology.proofs.Places.{BetweenAt}
 use Rattle.morphology.proofs.Walks.{weaken}
 use Rattle.morphology.proofs.Tests.{path-sound, sum-complete}
+use Rattle.reach.specs.declared.Link.{Link}
 use Rattle.reach.specs.declared.Offset.{Offset}
 use Rattle.reach.specs.declared.Board.{Board}
 use Rattle.reach.specs.Steps.Links.{shapesOf, placeOf, Linked}
@@ -70,7 +71,7 @@ fault-is E Bs e = by (hasTest E e) (sumTest Bs e) (pathTest Bs e) (path-sum Bs e
     by true false false f = refl
     by false s p f = refl
 
-module _ (e : Element) (links : List Element) (k : ℕ)
+module _ (e : Element) (links : List Link) (k : ℕ)
     (C : Chained (shapeOf e) (shapesOf (take k links))) (few : k ≤ mostLinks) where
   pub linked : Linked links k
   linked = record { few = few; small = C .links }

@@ -7,6 +7,7 @@ use element::MOST_CELLS;
 use element::Outline;
 use element::RowWord;
 use picture::Ping;
+use reach::Link;
 use reach::MOST_LINKS;
 use reach::Offset;
 use reach::SUMS;
@@ -67,7 +68,7 @@ fn at_fault(
     outline: Outline,
     words: &[u64; SUMS],
     zero: Sum,
-    links: [Element; MOST_LINKS],
+    links: [Link; MOST_LINKS],
     k: usize,
     at: Offset,
 ) -> bool
@@ -100,7 +101,7 @@ fn offset_no(n: usize) -> Offset
 }
 
 // The check of an element and the first k of its links.
-pub fn check(e: Element, links: [Element; MOST_LINKS], k: usize) -> Answer
+pub fn check(e: Element, links: [Link; MOST_LINKS], k: usize) -> Answer
     requires { ⌜ Chained (shapeOf e) (shapesOf (take k links)) ⌝ }
     requires { ⌜ k ≤ mostLinks ⌝ }
     ensures { λ r. ⌜ told r ≡ told (answerOf (checkOf (shapeOf e) (shapesOf (take k links)))) ⌝ }

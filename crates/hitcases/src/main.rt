@@ -42,7 +42,7 @@ fn run(
 // What a call is given, and the call.
 fn given(head: Head, line: &[u8], at: usize, target: &mut [u8], scratch: &mut [u8]) {
     let mut source = io::buffer();
-    let mut element = io::buffer();
+    let mut element = io::large_buffer();
     let mut other = io::buffer();
     let s = lines::buffer_at(line, at, &mut source);
     let e = lines::buffer_at(line, s.next, &mut element);

@@ -13,7 +13,7 @@ use Rattle.answer.specs.Answer.{centre}
 use Rattle.basics.specs.Bits.{on}
 use Rattle.basics.proofs.Lists.{getD-firsts}
 use Rattle.basics.proofs.Flags.{on-or, on-and, on-none, on-shr, on-shl, on-mod, on-ones}
-use Rattle.element.specs.declared.Element.{Element}
+use Rattle.reach.specs.declared.Link.{Link}
 use Rattle.element.specs.Record.{cellOn, shapeOf}
 use Rattle.morphology.specs.Step.{Place}
 use Rattle.morphology.specs.Check.{total, backX, backY}
@@ -23,7 +23,7 @@ use Rattle.reach.specs.declared.Cut.{Cut}
 use Rattle.reach.specs.declared.Bounds.{Bounds}
 use Rattle.reach.specs.declared.Sum.{Sum}
 use Rattle.reach.specs.Steps.Words.{sums, movedOf, spreadOf, lineOf, rowOf, maskOf, cutRow, stepOf}
-use Rattle.reach.specs.Steps.Links.{shapesOf}
+use Rattle.reach.specs.Steps.Links.{linkShape, shapesOf}
 use Rattle.reach.specs.Steps.Boards.{clipped, cutOf, startOf, onwardOf, wordsFrom}
 use Rattle.reach.proofs.Walked.{Places, placeAt, startPlaces, nextPlaces, placesFrom}
 
@@ -204,11 +204,11 @@ start-bit X (suc Y) =
 abbrev Agree : List ℕ → Places → Type 0
 Agree words S = (X Y : ℕ) → X < sums → Y < sums → placesIn words X Y ≡ S X Y
 
-next-agree : (m : Bounds) (e : Element) (ox oy : ℕ) (words : List ℕ) (S : Places)
+next-agree : (m : Bounds) (e : Link) (ox oy : ℕ) (words : List ℕ) (S : Places)
     → ox + e .outline .origin .ping .0 ≤ centre → oy + e .outline .origin .bin .0 ≤ centre → Agree words S
     → Agree (onwardOf words e
     (record { column = ox + e .outline .origin .ping .0; row = oy + e .outline .origin .bin .0 }) m)
-    (nextPlaces (inBounds m) ox oy (shapeOf e) S)
+    (nextPlaces (inBounds m) ox oy (linkShape e) S)
 unfolding onwardOf nextPlaces shapeOf
 next-agree m e ox oy words S lx ly so X Y hx hy =
     step-bit words (e .rows) (e .outline .w) (e .outline .h) _ X Y hx hy
@@ -219,7 +219,7 @@ next-agree m e ox oy words S lx ly so X Y hx hy =
     (λ c _. ap (λ t. cellOn (getD (e .rows) r 0) c && (leb c X && (leb r Y && t)))
     (so (X - c) (Y - r) (omega arith) (omega arith)))))
 
-from-agree : (m : Bounds) (es : List Element) (ox oy : ℕ) (words : List ℕ) (S : Places)
+from-agree : (m : Bounds) (es : List Link) (ox oy : ℕ) (words : List ℕ) (S : Places)
     → ox + backX (shapesOf es) ≤ centre → oy + backY (shapesOf es) ≤ centre → Agree words S
     → Agree (wordsFrom m ox oy es words) (placesFrom (inBounds m) ox oy (shapesOf es) S)
 unfolding wordsFrom placesFrom total shapeOf
@@ -229,7 +229,7 @@ from-agree m (e ∷ es) ox oy words S lx ly so =
     (omega arith) (next-agree m e ox oy words S (omega arith) (omega arith) so)
 
 -- the words of a chain's board are its places
-pub words-agree : (m : Bounds) (es : List Element) → backX (shapesOf es) ≤ centre
+pub words-agree : (m : Bounds) (es : List Link) → backX (shapesOf es) ≤ centre
     → backY (shapesOf es) ≤ centre
     → Agree (wordsFrom m 0 0 es startOf) (placesFrom (inBounds m) 0 0 (shapesOf es) startPlaces)
 words-agree m es lx ly =

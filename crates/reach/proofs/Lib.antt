@@ -1,3 +1,4 @@
+pub mod Links
 pub mod Loops
 pub mod Walked
 pub mod Bits

@@ -17,7 +17,7 @@ use Rattle.answer.specs.Answer.{centre}
 use Rattle.basics.proofs.Flags.{low-on}
 use Rattle.reach.specs.declared.Offset.{Offset}
 use Rattle.basics.specs.Lists.{firsts}
-use Rattle.element.specs.declared.Element.{Element}
+use Rattle.reach.specs.declared.Link.{Link}
 use Rattle.element.specs.Descriptor.{mostCells}
 use Rattle.element.specs.Record.{cellOn, shapeOf}
 use Rattle.morphology.specs.Chain.{Fits, AllFit, mostLinkCells, mostLinks}
@@ -27,7 +27,7 @@ use Rattle.reach.specs.declared.Bounds.{Bounds}
 use Rattle.reach.specs.declared.Sum.{Sum}
 use Rattle.reach.specs.Steps.Words.{sums, movedOf, spreadOf, lineOf}
 use Rattle.reach.specs.Steps.Words.{rowOf, maskOf, cutRow, stepOf, Cutting}
-use Rattle.reach.specs.Steps.Links.{shapesOf, noLink}
+use Rattle.reach.specs.Steps.Links.{linkShape, shapesOf, emptyLink}
 use Rattle.reach.specs.Steps.Boards.{cutOf, startOf, onwardOf, wordsFrom, boardOf, holdsOf, Small}
 
 -- ---- columns
@@ -167,33 +167,33 @@ module _ (words : List ℕ) (o : Sum) (e : Offset) where
 -- ---- the links
 
 -- the origins of links of at most 8 by 8 sum to little
-pub origins-low : (es : List Element) → AllFit mostLinkCells (shapesOf es)
+pub origins-low : (es : List Link) → AllFit mostLinkCells (shapesOf es)
     → (backX (shapesOf es) ≤ 7 * length es) × (backY (shapesOf es) ≤ 7 * length es)
 unfolding total shapeOf
 origins-low [] f = (omega arith, omega arith)
 origins-low (e ∷ es) f = let h = origins-low es (f .1) in let g = f .0 in (omega arith, omega arith)
 
-pub fit-at : (es : List Element) (i : ℕ) → i < length es → AllFit mostLinkCells (shapesOf es)
-    → Fits mostLinkCells (shapeOf (getD es i noLink))
+pub fit-at : (es : List Link) (i : ℕ) → i < length es → AllFit mostLinkCells (shapesOf es)
+    → Fits mostLinkCells (linkShape (getD es i emptyLink))
 fit-at [] i l f = absurd (not-suc-le-zero l)
 fit-at (e ∷ es) zero l f = f .0
 fit-at (e ∷ es) (suc i) l f = fit-at es i (le-of-suc-le-suc l) (f .1)
 
 -- the links from link i on give the rest of the board:
 -- with the words and the origins so far they lead to the whole
-pub record Rest (m : Bounds) (es : List Element) (words : List ℕ) (column row i : ℕ) : Type 0 where
+pub record Rest (m : Bounds) (es : List Link) (words : List ℕ) (column row i : ℕ) : Type 0 where
   pub to-words : wordsFrom m column row (drop i es) words ≡ wordsFrom m 0 0 es startOf
   pub to-column : column + backX (shapesOf (drop i es)) ≡ backX (shapesOf es)
   pub to-row : row + backY (shapesOf (drop i es)) ≡ backY (shapesOf es)
 
-pub rest-start : (m : Bounds) (es : List Element) (words : List ℕ) → words ≡ startOf → Rest m es words 0 0 0
+pub rest-start : (m : Bounds) (es : List Link) (words : List ℕ) → words ≡ startOf → Rest m es words 0 0 0
 rest-start m es words e =
     record { to-words = ap (wordsFrom m 0 0 es) e; to-column = zero-plus _; to-row = zero-plus _ }
   where
     zero-plus : (n : ℕ) → 0 + n ≡ n
     zero-plus n = omega arith
 
-pub rest-all : (m : Bounds) (es : List Element) (words : List ℕ) (column row i : ℕ)
+pub rest-all : (m : Bounds) (es : List Link) (words : List ℕ) (column row i : ℕ)
     → Rest m es words column row i → length es ≤ i
     → record { words = words; origin = record { column = column; row = row } } ≡ boardOf m es
 unfolding boardOf wordsFrom total
@@ -210,37 +210,37 @@ rest-all m es words column row i r l =
     plus-zero : (n : ℕ) → n + 0 ≡ n
     plus-zero n = omega arith
 
-module _ (links : List Element) (k : ℕ) (i : ℕ) (few : k ≤ length links) (more : i < k) where
+module _ (links : List Link) (k : ℕ) (i : ℕ) (few : k ≤ length links) (more : i < k) where
   long : length (take k links) ≡ k
   long = length-take-le k links few
 
-  link-is : getD (take k links) i noLink ≡ getD links i noLink
-  link-is = getD-take k links i noLink more
+  link-is : getD (take k links) i emptyLink ≡ getD links i emptyLink
+  link-is = getD-take k links i emptyLink more
 
-  rest-is : drop i (take k links) ≡ getD links i noLink ∷ drop (i + 1) (take k links)
+  rest-is : drop i (take k links) ≡ getD links i emptyLink ∷ drop (i + 1) (take k links)
   rest-is =
-      drop-cons (take k links) i noLink (subst (λ n. i < n) (sym long) more)
+      drop-cons (take k links) i emptyLink (subst (λ n. i < n) (sym long) more)
       ∙ ap₂ (λ e n. e ∷ drop n (take k links)) link-is (sym (add-one i))
 
   fit-here : AllFit mostLinkCells (shapesOf (take k links))
-      → Fits mostLinkCells (shapeOf (getD links i noLink))
+      → Fits mostLinkCells (linkShape (getD links i emptyLink))
   fit-here f =
-      subst (λ e. Fits mostLinkCells (shapeOf e)) link-is
+      subst (λ e. Fits mostLinkCells (linkShape e)) link-is
       (fit-at (take k links) i (subst (λ n. i < n) (sym long) more) f)
 
   pub narrow-here : AllFit mostLinkCells (shapesOf (take k links))
-      → (getD links i noLink .outline .w ≤ mostCells) × (getD links i noLink .outline .h ≤ mostCells)
+      → let o = getD links i emptyLink .outline in (o .w ≤ mostCells) × (o .h ≤ mostLinkCells)
   unfolding shapeOf
   narrow-here f = let g = fit-here f in (omega arith, omega arith)
 
   module _ (m : Bounds) (words next : List ℕ) (column row : ℕ)
       (r : Rest m (take k links) words column row i) where
-    pub rest-more : next ≡ onwardOf words (getD links i noLink) (record {
-      column = column + getD links i noLink .outline .origin .ping .0;
-      row = row + getD links i noLink .outline .origin .bin .0;
+    pub rest-more : next ≡ onwardOf words (getD links i emptyLink) (record {
+      column = column + getD links i emptyLink .outline .origin .ping .0;
+      row = row + getD links i emptyLink .outline .origin .bin .0;
     }) m
-        → Rest m (take k links) next (column + getD links i noLink .outline .origin .ping .0)
-        (row + getD links i noLink .outline .origin .bin .0) (i + 1)
+        → Rest m (take k links) next (column + getD links i emptyLink .outline .origin .ping .0)
+        (row + getD links i emptyLink .outline .origin .bin .0) (i + 1)
     unfolding wordsFrom total shapeOf
     rest-more e =
         record {
@@ -257,8 +257,8 @@ module _ (links : List Element) (k : ℕ) (i : ℕ) (few : k ≤ length links) (
     -- so far the origins sum to no more than all of them
     pub rest-small : AllFit mostLinkCells (shapesOf (take k links)) → k ≤ mostLinks
         → Small (record {
-          column = column + getD links i noLink .outline .origin .ping .0;
-          row = row + getD links i noLink .outline .origin .bin .0;
+          column = column + getD links i emptyLink .outline .origin .ping .0;
+          row = row + getD links i emptyLink .outline .origin .bin .0;
         })
     unfolding total shapeOf
     rest-small f l =

@@ -11,7 +11,7 @@ use borrow.Author.Tests.{le-leb, lt-leb, lt-ltb, le-ltb}
 use lib.Dec.{T, leb, ltb, le→leb}
 use lib.ListN.{length, take, length-take}
 use Rattle.answer.specs.Answer.{centre}
-use Rattle.element.specs.declared.Element.{Element}
+use Rattle.reach.specs.declared.Link.{Link}
 use Rattle.element.specs.Shape.{Shape}
 use Rattle.morphology.specs.Step.{Place}
 use Rattle.morphology.specs.Chain.{AllFit, mostLinkCells, mostLinks}
@@ -103,8 +103,8 @@ module _ (words : List ℕ) (o : Sum) (e : Offset) (S : Places) (b : Bool)
           (off-board (inr (omega arith)))
       by (no l) t r d = simp (lt-leb centre (e .x + o .column) (omega arith)) (off-board (inl (omega arith)))
 
-module _ (es : List Element) (few : length es ≤ mostLinks) (small : AllFit mostLinkCells (shapesOf es)) where
-  shapes-long : (es : List Element) → length (shapesOf es) ≡ length es
+module _ (es : List Link) (few : length es ≤ mostLinks) (small : AllFit mostLinkCells (shapesOf es)) where
+  shapes-long : (es : List Link) → length (shapesOf es) ≡ length es
   shapes-long [] = refl
   shapes-long (e ∷ es) = ap suc (shapes-long es)
 
@@ -182,7 +182,7 @@ module _ (es : List Element) (few : length es ≤ mostLinks) (small : AllFit mos
       (λ p h. h) (shapesOf es) still (placeOf e))
 
 -- ---- of the first k links
-module _ (links : List Element) (k : ℕ) (p : Linked links k) where
+module _ (links : List Link) (k : ℕ) (p : Linked links k) where
   few-taken : length (take k links) ≤ mostLinks
   few-taken = let l = p .few in omega (arith, length-take k links)
 

@@ -6,6 +6,8 @@ use Rattle.reach.proofs.all_sums.Kinds as all-sums-kinds
 use Rattle.reach.proofs.all_sums.Reads as all-sums
 use Rattle.reach.proofs.holds.Kinds as holds-kinds
 use Rattle.reach.proofs.holds.Reads as holds
+use Rattle.reach.proofs.links_of.Kinds as links-of-kinds
+use Rattle.reach.proofs.links_of.Reads as links-of
 use Rattle.reach.proofs.path.Kinds as path-kinds
 use Rattle.reach.proofs.path.Reads as path
 
@@ -14,6 +16,9 @@ all-sums-settled κs a x y s t p q = settled p q
 
 pub holds-settled : Settles 1 holds-kinds.ps holds-kinds.r holds.Learnt
 holds-settled κs a x y s t p q = settled p q
+
+pub links-of-settled : Settles 0 links-of-kinds.ps links-of-kinds.r links-of.Learnt
+links-of-settled κs a x y s t p q = settled p q
 
 pub path-settled : Settles 0 path-kinds.ps path-kinds.r path.Learnt
 path-settled κs a x y s t p q = settled p q

@@ -2,17 +2,20 @@
 use answer::CENTRE;
 use element::Element;
 use element::MOST_CELLS;
+use element::Outline;
 use element::RowWord;
 use picture::Bin;
 use picture::Ping;
 ghost use mathlib.Core.Path.{_≡_};
+ghost use mathlib.Core.List.{map};
 ghost use Prim.Native.Nat.{_≤_, _<_};
 ghost use lib.ListN.{take};
 ghost use Rattle.element.specs.Descriptor.{mostCells};
+ghost use Rattle.morphology.specs.Chain.{mostLinkCells};
 ghost use Rattle.morphology.specs.Check.{pathTest};
 ghost use Rattle.reach.specs.Steps.Words.{sums, movedOf, spreadOf, lineOf};
 ghost use Rattle.reach.specs.Steps.Words.{rowOf, maskOf, cutRow, stepOf, Cutting};
-ghost use Rattle.reach.specs.Steps.Links.{shapesOf, placeOf, OneByte, Linked};
+ghost use Rattle.reach.specs.Steps.Links.{linkOf, shapesOf, placeOf, OneByte, Linked};
 ghost use Rattle.reach.specs.Steps.Boards.{clipped, cutOf, startOf, onwardOf, boardOf};
 ghost use Rattle.reach.specs.Steps.Boards.{everywhereOf, betweenOf, holdsOf, InBytes, Small};
 
@@ -23,6 +26,13 @@ pub const MOST_LINKS: usize = 5;
 
 // A sum takes a column and a row from each link: how many sums of columns there are, and so of rows.
 pub const SUMS: usize = MOST_LINKS * (MOST_LINK_CELLS - 1) + 1;
+
+// A link as the check holds it: an element's size and origin, and as many rows as a link has.
+// It is what the loops copy; an element is eight times as long.
+pub struct Link {
+    pub outline: Outline,
+    pub rows: [RowWord; MOST_LINK_CELLS],
+}
 
 // A sum of columns and a sum of rows.
 pub struct Sum {
@@ -58,6 +68,44 @@ struct Cut {
 pub struct Board {
     pub words: [u64; SUMS],
     pub origin: Sum,
+}
+
+// The first rows of an element, as many as a link has.
+fn first_rows(cells: [RowWord; MOST_CELLS]) -> [RowWord; MOST_LINK_CELLS]
+    ensures { λ r. ⌜ r ≡ take mostLinkCells cells ⌝ }
+{
+    let mut rows = [0; MOST_LINK_CELLS];
+    let mut r = 0;
+    while r < MOST_LINK_CELLS {
+        rows[r] = cells[r];
+        r += 1;
+    }
+    rows
+}
+
+fn link_of(e: Element) -> Link
+    ensures { λ r. ⌜ r ≡ linkOf e ⌝ }
+{
+    let outline = e.outline;
+    let cells = e.rows;
+    let rows = first_rows(cells);
+    Link { outline, rows }
+}
+
+// Elements that were read, as links: once for each check.
+pub fn links_of(all: [Element; MOST_LINKS]) -> [Link; MOST_LINKS]
+    ensures { λ r. ⌜ r ≡ map linkOf all ⌝ }
+{
+    let first = all[0];
+    let none = link_of(first);
+    let mut links = [none; MOST_LINKS];
+    let mut i = 0;
+    while i < MOST_LINKS {
+        let e = all[i];
+        links[i] = link_of(e);
+        i += 1;
+    }
+    links
 }
 
 // A row word moved by c columns, where the cell of column c is set.
@@ -112,8 +160,8 @@ fn line_back(board: &[u64; SUMS], y: Bin, r: Bin) -> u64
 }
 
 // What a whole link gives in row y.
-fn row(board: &[u64; SUMS], cells: &[RowWord; MOST_CELLS], w: usize, h: usize, y: Bin) -> u64
-    requires { ⌜ (w ≤ mostCells) × ((h ≤ mostCells) × (y .0 < sums)) ⌝ }
+fn row(board: &[u64; SUMS], cells: &[RowWord; MOST_LINK_CELLS], w: usize, h: usize, y: Bin) -> u64
+    requires { ⌜ (w ≤ mostCells) × ((h ≤ mostLinkCells) × (y .0 < sums)) ⌝ }
     ensures { λ v. ⌜ v ≡ rowOf (now (board .entry)) (now (cells .entry)) w (y .0) h ⌝ }
 {
     let mut a = 0;
@@ -138,14 +186,14 @@ fn mask(cut: Cut) -> u64
 // Row y of the next board, inside the cut: nothing outside its rows.
 fn cut_row(
     board: &[u64; SUMS],
-    cells: &[RowWord; MOST_CELLS],
+    cells: &[RowWord; MOST_LINK_CELLS],
     w: usize,
     h: usize,
     m: u64,
     cut: Cut,
     y: Bin,
 ) -> u64
-    requires { ⌜ (w ≤ mostCells) × ((h ≤ mostCells) × (y .0 < sums)) ⌝ }
+    requires { ⌜ (w ≤ mostCells) × ((h ≤ mostLinkCells) × (y .0 < sums)) ⌝ }
     ensures { λ v. ⌜ v ≡ cutRow (now (board .entry)) (now (cells .entry)) w h m cut (y .0) ⌝ }
 {
     let at = y.0 as usize;
@@ -161,12 +209,12 @@ fn cut_row(
 // The board after one more link.
 fn step(
     board: &[u64; SUMS],
-    cells: &[RowWord; MOST_CELLS],
+    cells: &[RowWord; MOST_LINK_CELLS],
     w: usize,
     h: usize,
     cut: Cut,
 ) -> [u64; SUMS]
-    requires { ⌜ (w ≤ mostCells) × ((h ≤ mostCells) × Cutting cut) ⌝ }
+    requires { ⌜ (w ≤ mostCells) × ((h ≤ mostLinkCells) × Cutting cut) ⌝ }
     ensures { λ b. ⌜ b ≡ stepOf (now (board .entry)) (now (cells .entry)) w h cut ⌝ }
 {
     let m = mask(cut);
@@ -213,8 +261,8 @@ fn start() -> [u64; SUMS]
 }
 
 // The board after the link e, whose origin brings the sum of origins to o.
-fn onward(board: &[u64; SUMS], e: Element, o: Sum, m: Bounds) -> [u64; SUMS]
-    requires { ⌜ (e .outline .w ≤ mostCells) × (e .outline .h ≤ mostCells) ⌝ }
+fn onward(board: &[u64; SUMS], e: Link, o: Sum, m: Bounds) -> [u64; SUMS]
+    requires { ⌜ (e .outline .w ≤ mostCells) × (e .outline .h ≤ mostLinkCells) ⌝ }
     requires { ⌜ InBytes m ⌝ }
     requires { ⌜ Small o ⌝ }
     ensures { λ b. ⌜ b ≡ onwardOf (now (board .entry)) e o m ⌝ }
@@ -226,7 +274,7 @@ fn onward(board: &[u64; SUMS], e: Element, o: Sum, m: Bounds) -> [u64; SUMS]
 }
 
 // The board after the first k links.
-fn reach(links: [Element; MOST_LINKS], k: usize, m: Bounds) -> Board
+fn reach(links: [Link; MOST_LINKS], k: usize, m: Bounds) -> Board
     requires { ⌜ Linked links k ⌝ }
     requires { ⌜ InBytes m ⌝ }
     ensures { λ b. ⌜ b ≡ boardOf m (take k links) ⌝ }
@@ -300,7 +348,7 @@ pub fn holds(words: &[u64; SUMS], o: Sum, at: Offset) -> bool
 }
 
 // The board of all sums of the first k links.
-pub fn all_sums(links: [Element; MOST_LINKS], k: usize) -> Board
+pub fn all_sums(links: [Link; MOST_LINKS], k: usize) -> Board
     requires { ⌜ Linked links k ⌝ }
     ensures { λ b. ⌜ b ≡ boardOf everywhereOf (take k links) ⌝ }
 {
@@ -309,7 +357,7 @@ pub fn all_sums(links: [Element; MOST_LINKS], k: usize) -> Board
 }
 
 // A path of the first k links leads to the offset.
-pub fn path(links: [Element; MOST_LINKS], k: usize, at: Offset) -> bool
+pub fn path(links: [Link; MOST_LINKS], k: usize, at: Offset) -> bool
     requires { ⌜ Linked links k ⌝ }
     requires { ⌜ OneByte at ⌝ }
     ensures { λ r. ⌜ r ≡ pathTest (shapesOf (take k links)) (placeOf at) ⌝ }

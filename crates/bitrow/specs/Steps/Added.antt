@@ -1,20 +1,19 @@
 -- A packed row with one row of an element folded in.
-use Prim.Native.Nat.{ℕ, _-_, _*_, _%_, _^_}
+use Prim.Native.Nat.{ℕ, _*_}
 use mathlib.Core.Bool.{cond}
 use mathlib.Core.List.{List}
 use lib.Dec.{ltb}
 use lib.Bits.{bitAnd}
 use lib.ListN.{length, getD, take, drop}
 use Rattle.element.specs.declared.Outline.{Outline}
-use Rattle.element.specs.Descriptor.{mostCells}
 use Rattle.packedline.specs.Steps.Cells.{runWord}
 use Rattle.packedline.specs.Steps.Line.{lineOf}
 use Rattle.rows.specs.Steps.Row.{sourceRow}
 use Rattle.bitrow.specs.declared.Task.{Task}
 
--- the first `wide` cells of a row word, as one of 64 cells
+-- the first `wide` cells of a row word
 unfoldable pub maskedOf : ℕ → ℕ → ℕ
-maskedOf word wide = bitAnd (word * 2 ^ (64 - mostCells) % 2 ^ 64) (runWord wide)
+maskedOf word wide = bitAnd word (runWord wide)
 
 -- row v of rows of n bytes
 abbrev pub rowIn : ℕ → List ℕ → ℕ → List ℕ

@@ -67,19 +67,21 @@ returns-3 c =
 
 check-requires : tie.Need-check-requires
 check-requires c κs =
-    let l = links (c .before) in
+    let l = links (c .before .before) in
     let m = made (l .before .before .before) in
     let r = whole (l .before .before .before .before) in (
-      chained _ _ _ (plain 0) m (right (l .before)) (l .read-links .result) (l .read-links .ensures) (done c)
+      chained _ _ _ (plain 0) m (right (l .before)) (l .read-links .result) (l .read-links .ensures)
+          (done (c .before))
           (r .read-element .result .element)
-          (made-element _ (r .read-element .result) (r .read-element .ensures) m),
+          (made-element _ (r .read-element .result) (r .read-element .ensures) m) _ (c .links-of .ensures),
       few-links _ (right (l .before)),
     )
 
 returns-4 : tie.Need-returns-4
 unfolding checked
 returns-4 c =
-    let e = c .before in
+    let h = c .before in
+    let e = h .before in
     let l = links (e .before) in
     let m = made (l .before .before .before) in
     let n = right (l .before) in
@@ -90,7 +92,7 @@ returns-4 c =
           ∙ ap (λ v. told (answerOf v))
           (same-check _ _ _ (plain 0) m n (l .read-links .result) (l .read-links .ensures) (done e)
           (r .read-element .result .element)
-          (made-element _ (r .read-element .result) (r .read-element .ensures) m)
+          (made-element _ (r .read-element .result) (r .read-element .ensures) m) _ (h .links-of .ensures)
           (λ i. omega (arith, r .before .before .shared-slice-known .given i))
           (λ i. omega (arith, r .before .shared-slice-known2 .given i)))
           ∙ check-passed _ _ _ _ m n (l .read-links .result) (l .read-links .ensures) (done e);
@@ -109,5 +111,6 @@ checked-links-spec =
     (λ c κs. few-links _ (right c))
     (λ c κs. search needs)
     returns-3
+    (λ c κs. search needs)
     check-requires
     returns-4)

@@ -9,12 +9,12 @@ use borrow.Author.Needs.{needs}
 use Rattle.element.proofs.head_made.Statement.{statement}
 use Rattle.element.proofs.head_made.Tie as tie
 
--- 1 ≤ w ≤ 32
+-- 1 ≤ w ≤ 64
 wide : (c : tie.Else2) → let w = c .before .before .before .before .args .w in
     (leb 1 w ≡ true) × (leb w mostCells ≡ true)
 wide c = (le-leb _ _ (c .before .if1 .left), le-leb _ _ (c .if2 .left))
 
--- 1 ≤ h ≤ 32
+-- 1 ≤ h ≤ 64
 high : (c : tie.Else4) → let h = c .before .before .before .before .before .before .args .h in
     (leb 1 h ≡ true) × (leb h mostCells ≡ true)
 high c = (le-leb _ _ (c .before .if3 .left), le-leb _ _ (c .if4 .left))

@@ -1,4 +1,4 @@
--- Invariant: v is the number of the first j bytes, each a digit of 8 bits; 4 - j, the bytes left, falls.
+-- Invariant: v is the number of the first j bytes, each a digit of 8 bits; 8 - j, the bytes left, falls.
 -- A digit is a byte (`bytes`), so that no digit runs over into the next.
 use Rattle.element.proofs.Words.{word-byte-lt}
 use Rattle.element.specs.Steps.Words.{wordByte, wordOf}
@@ -29,7 +29,7 @@ loop-again c =
     let p = c .before .before in
     let l = p .loop in (
       search needs,
-      digits-more 8 (byte (p .before .before)) (bytes (p .before)) 32 (l .j)
+      digits-more 8 (byte (p .before .before)) (bytes (p .before)) 64 (l .j)
           (l .v) _ (omega arith) (l .inv .1) (c .byte-or-none .ensures),
     )
 

@@ -5,7 +5,7 @@ use native.Mathlib.Omega.{arith}
 use lib.ListN.{length, getD, take}
 use lib.Seq.{length-take-le}
 use borrow.Author.Needs.{needs}
-use Rattle.reach.specs.Steps.Links.{noLink}
+use Rattle.reach.specs.Steps.Links.{emptyLink}
 use Rattle.reach.specs.Steps.Boards.{Small}
 use Rattle.reach.proofs.Loops.{Rest, rest-start, rest-more, rest-all, rest-small, narrow-here}
 use Rattle.reach.proofs.reach.Statement.{statement}
@@ -29,7 +29,7 @@ few c = let n = entry c .good .0 .1 .0 .1 in omega (arith, entry c .pre .0 .few)
 
 -- the origins so far, with that of link i
 little : (c : Inside) → let l = c .before .loop in
-    let o = getD (entry c .args .t1) (l .i) noLink .outline .origin in
+    let o = getD (entry c .args .t1) (l .i) emptyLink .outline .origin in
     Small (record { column = l .column + o .ping .0; row = l .row + o .bin .0 })
 little c =
     let s = entry c in

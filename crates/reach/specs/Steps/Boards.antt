@@ -7,8 +7,8 @@ use lib.Dec.{leb, ltb}
 use lib.ListN.{getD, replicate}
 use Rattle.answer.specs.Answer.{centre}
 use Rattle.basics.specs.Bits.{on}
-use Rattle.element.specs.declared.Element.{Element}
 use Rattle.morphology.specs.Check.{backX, backY}
+use Rattle.reach.specs.declared.Link.{Link}
 use Rattle.reach.specs.declared.Cut.{Cut}
 use Rattle.reach.specs.declared.Bounds.{Bounds}
 use Rattle.reach.specs.declared.Sum.{Sum}
@@ -36,16 +36,16 @@ unfoldable pub startOf : List ℕ
 startOf = 1 ∷ replicate (sums - 1) 0
 
 -- one more link, whose origin brings the sums to o
-unfoldable pub onwardOf : List ℕ → Element → Sum → Bounds → List ℕ
+unfoldable pub onwardOf : List ℕ → Link → Sum → Bounds → List ℕ
 onwardOf board e o m = stepOf board (e .rows) (e .outline .w) (e .outline .h) (cutOf o m)
 
-unfoldable pub wordsFrom : Bounds → ℕ → ℕ → List Element → List ℕ → List ℕ
+unfoldable pub wordsFrom : Bounds → ℕ → ℕ → List Link → List ℕ → List ℕ
 wordsFrom m ox oy [] board = board
 wordsFrom m ox oy (e ∷ es) board =
     wordsFrom m (ox + e .outline .origin .ping .0) (oy + e .outline .origin .bin .0) es (onwardOf board
     e (record { column = ox + e .outline .origin .ping .0; row = oy + e .outline .origin .bin .0 }) m)
 
-unfoldable pub boardOf : Bounds → List Element → Board
+unfoldable pub boardOf : Bounds → List Link → Board
 boardOf m es = record {
   words = wordsFrom m 0 0 es startOf;
   origin = record { column = backX (shapesOf es); row = backY (shapesOf es) };

@@ -4,14 +4,30 @@ use mathlib.Core.List.{List, [], map}
 use lib.ListN.{take}
 use Rattle.element.specs.declared.Element.{Element}
 use Rattle.element.specs.Shape.{Shape}
-use Rattle.element.specs.Record.{shapeOf}
+use Rattle.element.specs.Record.{shapeBy}
 use Rattle.morphology.specs.Step.{Place}
 use Rattle.morphology.specs.Chain.{mostLinkCells, mostLinks, AllFit}
+use Rattle.reach.specs.declared.Link.{Link}
 use Rattle.reach.specs.declared.Offset.{Offset}
 
+-- a link of an element that was read: its size and origin, and its first rows, all that a small one has
+unfoldable pub linkOf : Element → Link
+linkOf e = record { outline = e .outline; rows = take mostLinkCells (e .rows) }
+
 -- the links
-abbrev pub shapesOf : List Element → List Shape
-shapesOf es = map shapeOf es
+abbrev pub linkShape : Link → Shape
+linkShape l = shapeBy (l .outline) (l .rows)
+
+abbrev pub shapesOf : List Link → List Shape
+shapesOf ls = map linkShape ls
+
+-- what stands for a link where there is none
+abbrev pub emptyLink : Link
+emptyLink =
+    record {
+      outline = record { w = 0; h = 0; origin = record { ping = record { 0 = 0 }; bin = record { 0 = 0 } } };
+      rows = [];
+    }
 
 -- what stands for an element where there is none
 abbrev pub noLink : Element
@@ -31,6 +47,6 @@ pub record OneByte (e : Offset) : Type 0 where
   pub y-high : e .y ≤ 255
 
 -- the first k links are few and small
-pub record Linked (links : List Element) (k : ℕ) : Type 0 where
+pub record Linked (links : List Link) (k : ℕ) : Type 0 where
   pub few : k ≤ mostLinks
   pub small : AllFit mostLinkCells (shapesOf (take k links))
