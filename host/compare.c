@@ -70,7 +70,7 @@ static const struct function {
     plain_call *plain;
     middle_call *middle;
     chain_call *chain;
-    const char *numbers; /* those that it can give: digits, ; for 11 and < for 12 */
+    const char *numbers; /* those that it can give: digits, ; for 11, < for 12, ? for 15 */
 } functions[] = {
     {"erode1", FLAT, 1, 'e', qik_erode1, 0, 0, "01248"},
     {"dilate1", FLAT, 1, 'd', qik_dilate1, 0, 0, "01248"},
@@ -99,7 +99,7 @@ static const struct function {
     {"chain_erode8", CHAINED, 8, 'e', 0, 0, qik_chain_erode8, "0124678"},
     {"chain_dilate8", CHAINED, 8, 'd', 0, 0, qik_chain_dilate8, "0124678"},
     {"ech_read", READ, 0, 0, 0, 0, 0, "012389"},
-    {"ech_write", WRITE, 0, 0, 0, 0, 0, "01289"},
+    {"ech_write", WRITE, 0, 0, 0, 0, 0, "01289?"},
     {"pbm_read", PNM_READ, 1, 0, 0, 0, 0, "0128;"},
     {"pgm_read", PNM_READ, 8, 0, 0, 0, 0, "0128;"},
     {"pbm_write", PNM_WRITE, 1, 0, 0, 0, 0, "0128"},
@@ -658,9 +658,12 @@ static void worked(void) {
 
     static const uint8_t stored[] = {69, 67, 72, 1, 0, 3, 5, 0, 1, 0, 0x90}; /* kind 3: 01101 turned over */
     uint64_t r = qik_ech_read(LENT(stored), LENT(t));
-    must("kind 3 read", qik_read_number(r) == 0 && qik_read_kind(r) == 3 && qik_read_w(r) == 5 && qik_read_h(r) == 1 && t[0] == 0x68);
+    must("kind 3 read as kind 1", qik_read_number(r) == 0 && qik_read_kind(r) == 1 && qik_read_w(r) == 5 && qik_read_h(r) == 1 && t[0] == 0x68);
+    static const uint8_t renewed[] = {69, 67, 72, 1, 0, 1, 5, 0, 1, 0, 0x68};
     uint8_t again[11];
-    must("kind 3 written", qik_ech_write(3, 5, 1, LENT(t), LENT(again)) == 0 && memcmp(again, stored, sizeof again) == 0);
+    must("kind 3 written", qik_ech_write(3, 5, 1, t, 1, LENT(again)) == 15 && qik_ech_write(3, 5, 1, t, 1, again, 10) == 15);
+    must("kind 3 written, of no size or a source too long", qik_ech_write(3, 0, 1, t, 1, LENT(again)) == 1 && qik_ech_write(3, 5, 1, frame, 2, LENT(again)) == 2);
+    must("kind 3 rewritten as kind 1", qik_ech_write(qik_read_kind(r), 5, 1, t, 1, LENT(again)) == 0 && memcmp(again, renewed, sizeof again) == 0);
     must("a file that is refused", qik_ech_read(many, sizeof many, LENT(t)) == 9);
 }
 
@@ -853,7 +856,7 @@ static void repadded(void) {
     uint8_t t[2][32], m[2][32];
     const uint8_t *source[2] = {clean, ones};
     static const uint8_t full[] = {0xff, 0x80, 0xff, 0x80, 0xff, 0x80}, point[] = {0x80, 0, 0, 0, 0, 0x80};
-    for (int which = 0; which < 16; which++) {
+    for (int which = 0; which < 15; which++) {
         uint32_t answer[2];
         memset(t, 0xaa, sizeof t), memset(m, 0xaa, sizeof m);
         for (int i = 0; i < 2; i++) {
@@ -867,13 +870,12 @@ static void repadded(void) {
             case 5: answer[i] = qik_chain_erode1(9, 3, s, 6, LENT(back), 2, LENT(twice), t[i], 8, m[i], 8); break;
             case 6: answer[i] = qik_chain_dilate1(9, 3, s, 6, LENT(back), 2, LENT(twice), t[i], 8, m[i], 8); break;
             case 7: answer[i] = qik_ech_write(1, 9, 3, s, 6, t[i], 18); break;
-            case 8: answer[i] = qik_ech_write(3, 9, 3, s, 6, t[i], 18); break;
-            case 9: answer[i] = qik_pbm_write(9, 3, s, 6, t[i], 18); break;
-            case 10: answer[i] = qik_white_tophat1(9, 3, s, 6, LENT(back), t[i], 8, m[i], 8); break;
-            case 11: answer[i] = qik_black_tophat1(9, 3, s, 6, LENT(back), t[i], 8, m[i], 8); break;
-            case 12: answer[i] = qik_gradient1(9, 3, s, 6, LENT(back), t[i], 8, m[i], 8); break;
-            case 13: answer[i] = qik_reconstruct_cross(9, 3, s, 6, LENT(full), t[i], 8); break;
-            case 14: answer[i] = qik_reconstruct_cross(9, 3, LENT(point), s, 6, t[i], 8); break;
+            case 8: answer[i] = qik_pbm_write(9, 3, s, 6, t[i], 18); break;
+            case 9: answer[i] = qik_white_tophat1(9, 3, s, 6, LENT(back), t[i], 8, m[i], 8); break;
+            case 10: answer[i] = qik_black_tophat1(9, 3, s, 6, LENT(back), t[i], 8, m[i], 8); break;
+            case 11: answer[i] = qik_gradient1(9, 3, s, 6, LENT(back), t[i], 8, m[i], 8); break;
+            case 12: answer[i] = qik_reconstruct_cross(9, 3, s, 6, LENT(full), t[i], 8); break;
+            case 13: answer[i] = qik_reconstruct_cross(9, 3, LENT(point), s, 6, t[i], 8); break;
             default: answer[i] = qik_reconstruct_square(9, 3, LENT(point), s, 6, t[i], 8);
             }
         }
@@ -945,14 +947,14 @@ int main(int argc, char **argv) {
     printf("%-16s %ld checks, %ld wrong\n", "by hand", fixed, wrong);
     for (int i = 0; i < FUNCTIONS; i++) {
         const struct function *f = &functions[i];
-        long met[13] = {0}, before = differing;
+        long met[18] = {0}, before = differing;
         for (long round = 0; round < rounds; round++) {
             begin(seed, f->name, (uint64_t)round);
             some_call(f);
             met[compared(f, seed, round)]++;
         }
         printf("%-16s %ld calls, %ld differ; answers", f->name, rounds, differing - before);
-        for (int n = 0; n < 13; n++)
+        for (int n = 0; n < 18; n++)
             if (met[n]) printf(" %d: %ld", n, met[n]);
         for (const char *c = f->numbers; *c && rounds >= 500; c++)
             if (!met[*c - '0']) unmet++, printf(" (%d was not met)", *c - '0');

@@ -46,7 +46,7 @@ uint32_t __wrap_qik_dilate8(CALL) {
 uint64_t __wrap_qik_ech_read(const uint8_t *file, size_t file_len, uint8_t *target, size_t target_len) {
     uint64_t answer = __real_qik_ech_read(file, file_len, target, target_len);
     uint32_t w = qik_read_w(answer);
-    for (uint32_t y = 1; FAULT == 3 && qik_read_kind(answer) == 3 && w % 8 != 0 && y <= qik_read_h(answer); y++)
+    for (uint32_t y = 1; FAULT == 3 && answer > 255 && file[5] == 3 && w % 8 != 0 && y <= qik_read_h(answer); y++)
         target[y * ((w + 7) / 8) - 1] |= (uint8_t)(255 >> w % 8);
     return answer;
 }

@@ -419,18 +419,18 @@ struct file_told own_ech_read(struct lent file, struct lent target) {
     if (f[5] == 3) turn_over(a);
     picture_to(depth_of(f[5]), a, target.at);
     free(a);
-    return (struct file_told){0, f[5], w, h};
+    return (struct file_told){0, f[5] == 2 ? 2 : 1, w, h}; /* kind 3 is reported as kind 1 */
 }
 
 int own_ech_write(uint64_t kind, uint64_t w, uint64_t h, struct lent source, struct lent target) {
     if (kind < 1 || kind > 3) return 9;
     int no = source_refusal(depth_of(kind), w, h, source);
     if (no) return no;
+    if (kind == 3) return 15;
     if (target.len < 10 + source.len) return 8;
     const uint8_t head[10] = {69, 67, 72, 1, 0, (uint8_t)kind, (uint8_t)(w % 256), (uint8_t)(w / 256), (uint8_t)(h % 256), (uint8_t)(h / 256)};
     memcpy(target.at, head, 10);
     struct picture *a = picture_from(depth_of(kind), w, h, source.at);
-    if (kind == 3) turn_over(a);
     picture_to(depth_of(kind), a, target.at + 10);
     free(a);
     return 0;

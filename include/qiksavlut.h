@@ -42,6 +42,7 @@ enum qik_refusal {
     QIK_MARKER = 12, /* a marker point lies outside the mask */
     QIK_FULL = 13,   /* no room in the element book for a descriptor beside those that stay */
     QIK_ABSENT = 14, /* the element book holds nothing under this number, or has no such number */
+    QIK_RETIRED = 15, /* kind 3 of a file that is to be written: it is no longer made */
     QIK_BOOK = 17    /* the lent bytes are no element book, or are damaged */
 };
 
@@ -59,7 +60,7 @@ static inline int qik_dy(uint32_t answer) { return (int)((answer >> 16 & 255u) ^
 /* The refusal number of a read. */
 static inline uint32_t qik_read_number(uint64_t answer) { return (uint32_t)(answer & 255u); }
 
-/* The kind of the ECH file that was read: 1, 2 or 3; 0 of a refusal, and of a PBM or PGM file. */
+/* The kind of the ECH file that was read: 1, or 2; of a file of kind 3, which is retired, 1. 0 of a refusal, and of a PBM or PGM file. */
 static inline uint32_t qik_read_kind(uint64_t answer) { return (uint32_t)(answer >> 8 & 255u); }
 
 /* The pings of the picture that was read; 0 of a refusal. */
@@ -225,14 +226,14 @@ uint32_t qik_chain_dilate8(uint64_t w, uint64_t h, const uint8_t *source, size_t
                            size_t second_len);
 
 /* Reads an ECH file, version 1. file: the whole file. target: room for its picture.
- * Answer: FORM, SIZE, SOURCE (the body's length), PAD, ROOM in this order, or DONE with the picture in target; a picture of kind 3 is there the
- * ordinary one-bit picture. It is packed, number + 256 * kind + 65536 * w + 4294967296 * h, and the plain number where the file is refused:
- * qik_read_number, qik_read_kind, qik_read_w and qik_read_h take it apart. */
+ * Answer: FORM, SIZE, SOURCE (the body's length), PAD, ROOM in this order, or DONE with the picture in target. It is packed, number + 256 * kind
+ * + 65536 * w + 4294967296 * h, and the plain number where the file is refused: qik_read_number, qik_read_kind, qik_read_w and qik_read_h take it apart.
+ * A file of kind 3 (retired: one-bit, stored turned over, padding 0 as stored) is still read: target gets the ordinary one-bit picture, and the kind is 1. */
 uint64_t qik_ech_read(const uint8_t *file, size_t file_len, uint8_t *target, size_t target_len);
 
-/* Writes an ECH file, version 1, of kind 1 (one-bit), 2 (8-bit) or 3 (one-bit, stored turned over).
- * source: the picture, exactly; of kind 3 the ordinary one-bit picture. target: room for 10 bytes and the picture.
- * Answer: FORM for another kind, then SIZE, SOURCE, ROOM in this order, or DONE with the file in target. */
+/* Writes an ECH file, version 1, of kind 1 (one-bit) or 2 (8-bit).
+ * source: the picture, exactly; for kind 3 judged as a one-bit picture. target: room for 10 bytes and the picture.
+ * Answer: FORM for a kind that there never was, then SIZE, SOURCE, RETIRED (kind 3 is no longer made), ROOM in this order, or DONE with the file in target. */
 uint32_t qik_ech_write(uint64_t kind, uint64_t w, uint64_t h, const uint8_t *source, size_t source_len, uint8_t *target,
                        size_t target_len);
 

@@ -9,7 +9,7 @@ use lib.IntN.{ℤ, pos, negsuc, subℕ}
 use Rattle.answer.specs.declared.Answer.{Answer}
 use Rattle.answer.specs.declared.Answer.the-variants.{Done, Size, Source, Pad, Shape}
 use Rattle.answer.specs.declared.Answer.the-variants.{Overlap, Chain, Split, Room, Form, Job, Netpbm}
-use Rattle.answer.specs.declared.Answer.the-variants.{Marker, Full, Absent, Book}
+use Rattle.answer.specs.declared.Answer.the-variants.{Marker, Full, Absent, Retired, Book}
 use Rattle.answer.specs.declared.Told.{Told}
 use Rattle.answer.specs.Answer.{told, plain, centre}
 
@@ -43,7 +43,8 @@ answerOf t =
     (cond (eqb (t .number) 12) Marker
     (cond (eqb (t .number) 13) Full
     (cond (eqb (t .number) 14) Absent
-    Book))))))))))))))
+    (cond (eqb (t .number) 15) Retired
+    Book)))))))))))))))
 
 answer-back : (a : Answer) → answerOf (told a) ≡ a
 unfolding told plain
@@ -62,6 +63,7 @@ answer-back Netpbm = refl
 answer-back Marker = refl
 answer-back Full = refl
 answer-back Absent = refl
+answer-back Retired = refl
 answer-back Book = refl
 
 pub told-one-to-one : (a b : Answer) → told a ≡ told b → a ≡ b

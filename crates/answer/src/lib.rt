@@ -25,6 +25,7 @@ pub enum Answer {
     Marker,
     Full,
     Absent,
+    Retired,
     Book,
 }
 
@@ -68,6 +69,7 @@ fn number_of(a: Answer) -> u32
         Answer::Marker => 12,
         Answer::Full => 13,
         Answer::Absent => 14,
+        Answer::Retired => 15,
         Answer::Book => 17,
     }
 }

@@ -15,17 +15,14 @@ use Rattle.basics.proofs.Lists.{getD-firsts}
 use Rattle.basics.proofs.Joined.{length-joined, getD-joined}
 use Rattle.basics.proofs.Tests.{all-at}
 use Rattle.picture.specs.declared.Depth.{Depth}
-use Rattle.picture.specs.declared.Face.{Face}
-use Rattle.picture.specs.declared.Face.the-variants.{AsIs, TurnedOver}
-use Rattle.picture.specs.Frame.{top, rowBytes, pictureBytes, spareBits}
+use Rattle.picture.specs.declared.Face.the-variants.{AsIs}
+use Rattle.picture.specs.Frame.{rowBytes, pictureBytes, spareBits}
 use Rattle.picture.specs.Points.{valueAt}
 use Rattle.picture.specs.Bytes.{rowByte, rowOf, bytesOf, turned, faced, lastClear, lastsClear, paddingClear}
 use Rattle.copies.specs.Steps.Copy.{clearedByte, clearedAt}
 use Rattle.picture.proofs.Sizes.{row-some}
 use Rattle.picture.proofs.Rows.{row-length}
 use Rattle.copies.proofs.Copies.{cleared-is}
-use Rattle.picture.proofs.Bytes.{bytes-value, value-small, faced-small}
-use Rattle.picture.proofs.Points.{bytes-same}
 
 module _ (depth : Depth) (s : List ℕ) (bytes : (i : ℕ) → getD s i 0 < 256)
     (w h : ℕ) (some : 1 ≤ w) (clear : paddingClear depth s w h ≡ true) where
@@ -86,24 +83,3 @@ module _ (depth : Depth) (s : List ℕ) (bytes : (i : ℕ) → getD s i 0 < 256)
           let e = div-add-mod' j n in
           ap (λ k. getD (bytesOf depth (λ x y. valueAt depth s w x y) w h) k 0) (sym e)
           ∙ there (j / n) (j % n) (div-lt-iff-lt-mul p .1 l) (mod-lt j {m = n} p) ∙ ap (λ k. getD s k 0) e
-
--- turned over twice
-pub turned-twice : (face : Face) (most v : ℕ) → v ≤ most → turned face most (turned face most v) ≡ v
-turned-twice AsIs most v h = refl
-turned-twice TurnedOver most v h = omega arith
-
-pub faced-again : (depth : Depth) (face : Face) (s : List ℕ) → ((i : ℕ) → getD s i 0 < 256) → (w h : ℕ)
-    → bytesOf depth (faced depth face (bytesOf depth (faced depth face s w) w h) w) w h
-    ≡ bytesOf depth (λ x y. valueAt depth s w x y) w h
-unfolding faced
-faced-again depth face s bytes w h =
-    bytes-same depth _ (λ x y. valueAt depth s w x y) w h
-    (λ x y hx hy. ap (turned face (top depth))
-    (bytes-value depth (faced depth face s w) w h (λ x y k l. faced-small depth face s bytes w x y) x y hx hy)
-    ∙ turned-twice face (top depth) (valueAt depth s w x y) (value-small depth s bytes w x y))
-
-pub faced-twice : (depth : Depth) (face : Face) (s : List ℕ) → ((i : ℕ) → getD s i 0 < 256)
-    → (w h : ℕ) → 1 ≤ w → paddingClear depth s w h ≡ true → length s ≡ pictureBytes depth w h
-    → bytesOf depth (faced depth face (bytesOf depth (faced depth face s w) w h) w) w h ≡ s
-faced-twice depth face s bytes w h some clear whole =
-    faced-again depth face s bytes w h ∙ bytes-back depth s bytes w h some clear whole

@@ -31,7 +31,7 @@ use Rattle.weighted.proofs.open.Kinds as weighted-open-kinds
 use Rattle.weighted.proofs.open.Reads as weighted-open-reads
 use Rattle.weighted.proofs.close.Kinds as weighted-close-kinds
 use Rattle.weighted.proofs.close.Reads as weighted-close-reads
-use Rattle.ech.specs.File.{kindOf, pingsOf, binsOf}
+use Rattle.ech.specs.File.{reportedKind, pingsOf, binsOf}
 use Rattle.ech.specs.ReadWrite.{readAnswer, readTarget, writeAnswer, writeTarget}
 use Rattle.ech.proofs.read_ech.Kinds as read-kinds
 use Rattle.ech.proofs.read_ech.Reads as read-reads
@@ -213,7 +213,7 @@ unfolding readAnswer
 read-gives-none κs a r e p n f =
     let d = readCall κs a e in
     let no = refused-not (testsRead d) n (read-tests-numbered d) f in (
-      p .0 .kind ∙ ap (λ b. cond b (kindOf (d .file)) 0) no,
+      p .0 .kind ∙ ap (λ b. cond b (reportedKind (d .file)) 0) no,
       (
         p .0 .pings ∙ ap (λ b. cond b (pingsOf (d .file)) 0) no,
         p .0 .bins ∙ ap (λ b. cond b (binsOf (d .file)) 0) no,

@@ -35,4 +35,4 @@ pub read-tests-numbered : (d : ReadCall) → Numbered (testsRead d)
 read-tests-numbered d = (omega arith, (omega arith, (omega arith, (omega arith, (omega arith, tt)))))
 
 pub write-tests-numbered : (c : WriteCall) → Numbered (testsWrite c)
-write-tests-numbered c = (omega arith, (omega arith, (omega arith, (omega arith, tt))))
+write-tests-numbered c = (omega arith, (omega arith, (omega arith, (omega arith, (omega arith, tt)))))

@@ -7,12 +7,11 @@ use mathlib.Core.List.{List, _++_}
 use lib.ListN.{length, drop}
 use Rattle.answer.specs.declared.Told.{Told}
 use Rattle.answer.specs.Answer.{told, plain}
-use Rattle.answer.specs.Lent.{unlessRefused, ifDone}
-use Rattle.answer.specs.Refuse.{refuse}
+use Rattle.answer.specs.Lent.{unlessRefused}
 use Rattle.picture.specs.declared.Depth.{Depth}
 use Rattle.picture.specs.declared.Depth.the-variants.{OneBit}
 use Rattle.picture.specs.Frame.{Frame, frame, top, pictureBytes}
-use Rattle.picture.specs.Bytes.{Picture, turned, faced}
+use Rattle.picture.specs.Bytes.{Picture}
 use Rattle.picture.proofs.Points.{bytes-same}
 use Rattle.element.specs.Shape.{Shape}
 use Rattle.element.specs.Descriptor.{wellMade, shapeIn}
@@ -22,12 +21,12 @@ use Rattle.morphology.specs.Order.{Alike}
 use Rattle.flat.specs.Flat.{flatAnswer, flatLeft}
 use Rattle.hit.specs.Hit.{pairTests, hitAnswer, hitLeft}
 use Rattle.morphology.specs.Overlap.{shared}
-use Rattle.chain.specs.Reading.{linksIn, checked}
+use Rattle.chain.specs.Reading.{linksIn}
 use Rattle.judge.specs.Tests.{shapeTests, roomTests}
 use Rattle.chained.specs.Run.{runAnswer, eroded, dilated, firstAfter, secondAfter}
 use Rattle.chained.proofs.Buffers.{first-alike, second-alike}
-use Rattle.ech.specs.File.{headBytes, knownKind, depthOf, faceOf, headOf, fileOf}
-use Rattle.ech.specs.ReadWrite.{writeAnswer, writeTarget}
+use Rattle.ech.specs.File.{headBytes, knownKind, depthOf, headOf, fileOf}
+use Rattle.ech.specs.ReadWrite.{retiredTests, writeAnswer, writeTarget}
 use Rattle.netpbm.specs.File as pnm-file
 use Rattle.netpbm.specs.ReadWrite as pnm
 use Rattle.netpbm.proofs.write_pbm.Kinds as pbm-kinds
@@ -56,7 +55,7 @@ use Rattle.ech.proofs.write_ech.Kinds as write-kinds
 use Rattle.ech.proofs.write_ech.Reads as write-reads
 use Rattle.demands.specs.Demands.{Every}
 use Rattle.demands.specs.Calls.{Call, call, Twice, twice, roomTwice}
-use Rattle.demands.specs.HitCalls.{HitCall, hitCall}
+use Rattle.demands.specs.HitCalls.{hitCall}
 use Rattle.demands.specs.RunCalls.{RunCall, runCall, roomRun}
 use Rattle.demands.specs.FileCalls.{WriteCall, writeCall}
 use Rattle.demands.specs.PointsAlone.{Repadded, RepaddedTwice, RepaddedHit, RepaddedRun, RepaddedWrite}
@@ -317,14 +316,15 @@ module _ (c d : WriteCall) (q : RepaddedWrite c d) where
   write-answer-same =
       ap (cond (not (knownKind (c .kind))) (plain 9))
       (same-tests (depthOf (c .kind)) (c .w) (c .h) (c .source) (d .source) (q .source)
-      (roomTests (depthOf (c .kind)) (c .w) (c .h) headBytes (length (c .before))) (plain 0))
+      (retiredTests (c .kind)
+      ++ roomTests (depthOf (c .kind)) (c .w) (c .h) headBytes (length (c .before))) (plain 0))
 
   file-same : fileOf (c .kind) (c .w) (c .h) (c .source) ≡ fileOf (c .kind) (c .w) (c .h) (d .source)
-  unfolding fileOf faced
+  unfolding fileOf
   file-same =
       ap (λ l. headOf (c .kind) (c .w) (c .h) ++ l)
       (bytes-same (depthOf (c .kind)) _ _ (c .w) (c .h)
-      (λ x y hx hy. ap (turned (faceOf (c .kind)) (top (depthOf (c .kind)))) (q .source .points x y hx hy)))
+      (λ x y hx hy. q .source .points x y hx hy))
 
   write-same : writeTarget (c .kind) (c .w) (c .h) (c .source) (c .before)
       ≡ writeTarget (c .kind) (c .w) (c .h) (d .source) (c .before)

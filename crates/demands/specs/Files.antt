@@ -1,5 +1,6 @@
 -- Demand 2 of files: a file written and read gives the same picture;
--- an accepted file read and written gives the same bytes. The bytes of a slice are below 256.
+-- an accepted file of kind 1 or 2 read and written gives the same bytes, and one of kind 3, which is retired,
+-- the file of kind 1 of the same picture. The bytes of a slice are below 256.
 use Prim.Native.Nat.{ℕ, _+_, _≤_, _<_}
 use mathlib.Core.Path.{_≡_}
 use mathlib.Core.Bool.{true}
@@ -8,12 +9,14 @@ use lib.ListN.{length, take, drop}
 use Rattle.basics.specs.Bytes.{Bytes}
 use Rattle.answer.specs.declared.Answer.{Answer}
 use Rattle.answer.specs.Answer.{told, isDone}
+use Rattle.picture.specs.declared.Depth.the-variants.{OneBit}
 use Rattle.picture.specs.declared.Point.{Point}
 use Rattle.picture.specs.Frame.{pictureBytes}
 use Rattle.picture.specs.Points.{valueAt}
-use Rattle.picture.specs.Bytes.{written, paddingClear}
+use Rattle.picture.specs.Bytes.{bytesOf, written, paddingClear}
 use Rattle.ech.specs.declared.Header.{Header}
-use Rattle.ech.specs.File.{headBytes, depthOf}
+use Rattle.ech.specs.File.{headBytes, depthOf, kindOf, pingsOf, binsOf, headOf}
+use Rattle.ech.specs.ReadWrite.{pictureOf}
 use Rattle.ech.proofs.write_ech.Kinds as write-kinds
 use Rattle.ech.proofs.write_ech.Reads as write
 use Rattle.ech.proofs.read_ech.Kinds as read-kinds
@@ -61,17 +64,31 @@ WrittenThenRead =
 
 -- ---- read, then written
 -- of a read that is done, and a write of the picture's own bytes with what the reader gave for kind and size,
--- with room for the file: done, and the bytes of the file that was read; the further bytes of the target stay
-pub record WrittenBack (d : ReadCall) (c : WriteCall) (answer : Answer) : Type 0 where
+-- with room for the file: done, and the bytes `file`; the further bytes of the target stay
+pub record WrittenBack (file : List ℕ) (c : WriteCall) (answer : Answer) : Type 0 where
   pub done : isDone (told answer) ≡ true
-  pub bytes : c .after ≡ d .file ++ drop (length (d .file)) (c .before)
+  pub bytes : c .after ≡ file ++ drop (length file) (c .before)
 
-abbrev pub ReadThenWritten : Type 0
-ReadThenWritten =
+-- of a file whose kind is so, and what is written in place of it
+abbrev pub ReadThenWritten : (ℕ → Type 0) → (List ℕ → List ℕ) → Type 0
+ReadThenWritten so made =
     Every 2 read-kinds.ps read-kinds.r read.Learnt (λ κs a x e.
     Every 2 write-kinds.ps write-kinds.r write.Learnt (λ κs' a' x' e'.
-    Bytes (readCall κs a e .file) → isDone (told (x .answer)) ≡ true
+    Bytes (readCall κs a e .file) → isDone (told (x .answer)) ≡ true → so (kindOf (readCall κs a e .file))
     → writeCall κs' a' e' .kind ≡ x .kind → writeCall κs' a' e' .w ≡ x .w → writeCall κs' a' e' .h ≡ x .h
     → writeCall κs' a' e' .source ≡ take (pictureLength (x .kind) (x .w) (x .h)) (readCall κs a e .after)
     → length (readCall κs a e .file) ≤ length (writeCall κs' a' e' .before)
-    → WrittenBack (readCall κs a e) (writeCall κs' a' e') x'))
+    → WrittenBack (made (readCall κs a e .file)) (writeCall κs' a' e') x'))
+
+-- kinds 1 and 2: the bytes of the file that was read
+abbrev pub SameFile : Type 0
+SameFile = ReadThenWritten (λ kind. kind ≡ 3 → ⊥) (λ file. file)
+
+-- kind 3: ten bytes that say kind 1 and the same size, and the bytes of the file's picture
+abbrev pub kindOne : List ℕ → List ℕ
+kindOne file =
+    headOf 1 (pingsOf file) (binsOf file)
+    ++ bytesOf OneBit (pictureOf file) (pingsOf file) (binsOf file)
+
+abbrev pub AsKindOne : Type 0
+AsKindOne = ReadThenWritten (λ kind. kind ≡ 3) kindOne

@@ -7,7 +7,7 @@ use contract.Lifetimes.{Lfts}
 use lib.ListN.{length}
 use Rattle.answer.specs.Refuse.{Test}
 use Rattle.element.specs.Descriptor.{shapeIn}
-use Rattle.ech.specs.File.{depthOf, kindOf, pingsOf, binsOf}
+use Rattle.ech.specs.File.{depthOf, kindOf, reportedKind, pingsOf, binsOf}
 use Rattle.ech.specs.ReadWrite.{pictureOf}
 use Rattle.text.specs.Text.{textOf}
 use Rattle.job.specs.Job.{letterOf, operationOf, elementIn, fileIn, jobTests}
@@ -49,4 +49,4 @@ textOfJob job =
     textOf (depthOf (kindOf (fileIn job)))
     (operated (operationOf (letterOf job)) (depthOf (kindOf (fileIn job))) (pingsOf (fileIn job))
     (binsOf (fileIn job)) (shapeIn (elementIn job)) (pictureOf (fileIn job)))
-    (pingsOf (fileIn job)) (binsOf (fileIn job)) (kindOf (fileIn job))
+    (pingsOf (fileIn job)) (binsOf (fileIn job)) (reportedKind (fileIn job))

@@ -1,22 +1,23 @@
 -- The first ten bytes of a file, test after test;
 -- and what an answer that is done tells of a file and of a picture to be written.
 use Prim.Native.Nat.{ℕ, _≤_, _<_}
-use mathlib.Core.Path.{_≡_, sym, _∙_}
-use mathlib.Core.Bool.{true, false, not, _&&_}
+use mathlib.Core.Path.{_≡_, refl, sym, ap, _∙_}
+use mathlib.Core.Bool.{Bool, true, false, not, cond, _&&_}
 use mathlib.Core.List.{List}
 use native.Mathlib.Omega.{arith}
 use borrow.Author.Tests.{eq-eqb, ne-eqb, eqb-true, lt-leb, le-leb, leb-true, not-false}
 use lib.Dec.{leb, eqb}
 use lib.ListN.{length, getD}
 use Rattle.basics.proofs.Tests.{both}
-use Rattle.answer.specs.Answer.{isDone}
+use Rattle.answer.specs.Answer.{plain, isDone}
+use Rattle.answer.specs.Refuse.{refuse}
 use Rattle.judge.specs.declared.Padding.the-variants.{Judged, Free}
 use Rattle.judge.specs.Tests.{Admitted}
-use Rattle.judge.proofs.Admitted.{staged}
+use Rattle.judge.proofs.Admitted.{staged, admitted, between-tests}
 use Rattle.judge.proofs.Bodies.{body-admitted}
 use Rattle.ech.specs.File.{headBytes, markOf, versionOf, kindOf, pingsOf}
-use Rattle.ech.specs.File.{binsOf, bodyOf, depthOf, knownKind, formed}
-use Rattle.ech.specs.ReadWrite.{readAnswer, writeAnswer}
+use Rattle.ech.specs.File.{binsOf, bodyOf, depthOf, reported, knownKind, formed}
+use Rattle.ech.specs.ReadWrite.{readAnswer, retiredTests, writeAnswer}
 
 -- a file that is read, a picture that is written
 pub file-admitted : (f : List ℕ) (room : ℕ) → isDone (readAnswer f room) ≡ true
@@ -28,11 +29,33 @@ file-admitted f room e =
     (not-false _ (p .0), q)
 
 pub write-admitted : (kind w h : ℕ) (s t : List ℕ) → isDone (writeAnswer kind w h s t) ≡ true
-    → (knownKind kind ≡ true) × Admitted Free (depthOf kind) w h s headBytes (length t)
+    → (knownKind kind ≡ true)
+    × (Admitted Free (depthOf kind) w h s headBytes (length t) × (eqb kind 3 ≡ false))
 unfolding writeAnswer
 write-admitted kind w h s t e =
     let p = staged (not (knownKind kind)) 9 _ (omega arith) e in
-    (not-false _ (p .0), body-admitted Free (depthOf kind) w h s headBytes (length t) (p .1))
+    let same = between-tests Free (depthOf kind) w h s (retiredTests kind)
+    headBytes (length t) (omega arith, tt) in
+    let q = admitted Free (depthOf kind) w h s (refuse (retiredTests kind) (plain 0)) headBytes (length t)
+    (ap isDone same ∙ p .1) in
+    (not-false _ (p .0), (q .0, staged (eqb kind 3) 15 (plain 0) (omega arith) (q .1) .0))
+
+-- the kind that is reported: the depth is the file's, and the writer still makes it
+pub reported-depth : (kind : ℕ) → depthOf (reported kind) ≡ depthOf kind
+reported-depth kind = by (eqb kind 3) refl
+  where
+    by : (b : Bool) → eqb kind 3 ≡ b → depthOf (cond b 1 kind) ≡ depthOf kind
+    by true e = sym (ap depthOf (eqb-true kind 3 e))
+    by false e = refl
+
+pub reported-made : (kind : ℕ) → knownKind kind ≡ true
+    → (knownKind (reported kind) ≡ true) × (eqb (reported kind) 3 ≡ false)
+reported-made kind known = by (eqb kind 3) refl
+  where
+    by : (b : Bool) → eqb kind 3 ≡ b
+        → (knownKind (cond b 1 kind) ≡ true) × (eqb (cond b 1 kind) 3 ≡ false)
+    by true e = (refl, refl)
+    by false e = (known, e)
 
 -- ---- the tests of a file's first bytes
 -- ten bytes and the three letters

@@ -1,10 +1,11 @@
--- A file written and read gives the same picture; an accepted file read and written gives the same bytes.
+-- A file written and read gives the same picture; an accepted file read and written gives the same bytes,
+-- and one of kind 3 the file of kind 1 of the same picture.
 use Prim.Native.Nat.{ℕ, _+_, _-_, _*_, _/_, _%_, _^_, _≤_, _<_}
 use mathlib.Core.Path.{_≡_, refl, sym, ap, ap₂, _∙_, subst}
 use mathlib.Core.Bool.{Bool, true, not, cond, _&&_}
 use mathlib.Core.List.{List, [], _∷_, _++_}
 use native.Mathlib.Omega.{arith}
-use borrow.Author.Tests.{eqb-true, le-leb}
+use borrow.Author.Tests.{eqb-true, ne-eqb, le-leb}
 use lib.Dec.{eqb}
 use lib.ListN.{length, getD, take, drop, length-append, length-drop, take-append-drop}
 use lib.Seq.{take-at, drop-at, length-take-le, getD-take, getD-drop}
@@ -18,18 +19,21 @@ use Rattle.basics.specs.Bytes.{Bytes}
 use Rattle.judge.specs.declared.Padding.the-variants.{Judged, Free}
 use Rattle.judge.specs.Tests.{bodyTests, Admitted}
 use Rattle.judge.proofs.Bodies.{body-passes}
+use Rattle.picture.specs.declared.Face.the-variants.{AsIs, TurnedOver}
 use Rattle.picture.specs.declared.Depth.{Depth}
 use Rattle.picture.specs.Frame.{top, sizedFrame, pictureBytes}
-use Rattle.picture.specs.Bytes.{bytesOf, written, faced, paddingClear}
+use Rattle.picture.specs.Bytes.{Picture, bytesOf, written, faced, paddingClear}
 use Rattle.picture.proofs.Sizes.{sized-tells}
-use Rattle.picture.proofs.Bytes.{bytes-long, bytes-clear, faced-small}
+use Rattle.picture.proofs.Bytes.{bytes-long, bytes-clear, bytes-value, value-small, faced-small}
+use Rattle.picture.proofs.Points.{bytes-same}
 use Rattle.picture.specs.Points.{valueAt}
-use Rattle.copies.proofs.ReadBack.{faced-again, faced-twice}
-use Rattle.ech.specs.File.{headBytes, knownKind, kindOf, pingsOf, binsOf}
+use Rattle.copies.proofs.ReadBack.{bytes-back}
+use Rattle.ech.specs.File.{headBytes, knownKind, kindOf, reported, reportedKind, pingsOf, binsOf}
 use Rattle.ech.specs.File.{bodyOf, depthOf, faceOf, formed, headOf, fileOf}
-use Rattle.ech.specs.ReadWrite.{readAnswer, readTarget, writeAnswer, writeTarget}
+use Rattle.ech.specs.ReadWrite.{pictureOf, readAnswer, readTarget, writeAnswer, writeTarget}
 use Rattle.ech.proofs.Judging.{formed-tells, file-admitted, write-admitted}
-use Rattle.ech.proofs.Writing.{head-long}
+use Rattle.ech.proofs.Judging.{reported-depth, reported-made}
+use Rattle.ech.proofs.Writing.{head-long, write-passes}
 
 -- ---- what is written is formed, and says what it was written with
 module _ (kind w h : ℕ) (known : knownKind kind ≡ true) (rest : List ℕ) where
@@ -83,11 +87,17 @@ read-admitted f u kind w h body ef ek ew eh eb p =
         ap (λ k. picture k (pingsOf f) (binsOf f) (bodyOf f)) ek
         ∙ ap₂ (λ x y. picture kind x y (bodyOf f)) ew eh ∙ ap (picture kind w h) eb
 
+-- a picture's bytes show it
+bytes-again : (depth : Depth) (P : Picture) (w h : ℕ) → ((x y : ℕ) → x < w → y < h → P x y ≤ top depth)
+    → bytesOf depth (valueAt depth (bytesOf depth P w h) w) w h ≡ bytesOf depth P w h
+bytes-again depth P w h small =
+    bytes-same depth _ P w h (λ x y hx hy. bytes-value depth P w h small x y hx hy)
+
 -- ---- written, then read:
 -- the file's own bytes read into any buffer with room give the picture's points, its kind and its size
 pub record SamePicture (kind w h : ℕ) (s f u : List ℕ) : Type 0 where
   pub done : isDone (readAnswer f (length u)) ≡ true
-  pub kind-same : kindOf f ≡ kind
+  pub kind-same : reportedKind f ≡ kind
   pub pings-same : pingsOf f ≡ w
   pub bins-same : binsOf f ≡ h
   pub bytes-same : readTarget f u ≡ written (depthOf kind) (λ x y. valueAt (depthOf kind) s w x y) w h u
@@ -95,36 +105,39 @@ pub record SamePicture (kind w h : ℕ) (s f u : List ℕ) : Type 0 where
 pub written-then-read : (kind w h : ℕ) (s t u : List ℕ) → Bytes s → isDone (writeAnswer kind w h s t) ≡ true
     → pictureBytes (depthOf kind) w h ≤ length u
     → SamePicture kind w h s (fileOf kind w h s) u
-unfolding fileOf written
+unfolding fileOf written faced
 written-then-read kind w h s t u bytes e room =
     let depth = depthOf kind in
-    let face = faceOf kind in
-    let body = bytesOf depth (faced depth face s w) w h in
+    let body = bytesOf depth (valueAt depth s w) w h in
     let p = write-admitted kind w h s t e in
     let known = p .0 in
-    let some = sized-tells w h (p .1 .sized) .some-pings in
-    let small : (x y : ℕ) → x < w → y < h → faced depth face s w x y ≤ top depth =
-    λ x y k l. faced-small depth face s bytes w x y in
+    let made = p .1 .1 in
+    let some = sized-tells w h (p .1 .0 .sized) .some-pings in
+    let small : (x y : ℕ) → x < w → y < h → valueAt depth s w x y ≤ top depth =
+    λ x y k l. value-small depth s bytes w x y in
     let r = read-admitted (headOf kind w h ++ body) u kind w h body (file-formed kind w h known body)
     (file-kind kind w h known body) (file-pings kind w h known body) (file-bins kind w h known body)
     (file-body kind w h known body)
     (record {
-      sized = p .1 .sized;
-      whole = bytes-long depth (faced depth face s w) w h;
-      clear = bytes-clear depth (faced depth face s w) w h some small;
+      sized = p .1 .0 .sized;
+      whole = bytes-long depth (valueAt depth s w) w h;
+      clear = bytes-clear depth (valueAt depth s w) w h some small;
       roomy = omega arith;
     }) in
     record {
       done = r .0;
-      kind-same = file-kind kind w h known body;
+      kind-same = ap reported (file-kind kind w h known body) ∙ ap (λ b. cond b 1 kind) made;
       pings-same = file-pings kind w h known body;
       bins-same = file-bins kind w h known body;
       bytes-same =
-          r .1 ∙ ap (λ l. l ++ drop (pictureBytes depth w h) u)
-          (faced-again depth face s bytes w h);
+          r .1
+          ∙ ap (λ b. written depth (faced depth (cond b TurnedOver AsIs) body w) w h u) made
+          ∙ ap (λ l. l ++ drop (pictureBytes depth w h) u)
+          (bytes-again depth (valueAt depth s w) w h small);
     }
 
--- ---- read, then written: the picture's bytes written with the file's kind and size give the file's bytes
+-- ---- read, then written: the picture's bytes written with the kind and the size that were given back
+-- make the file that is rewritten, which has the file's own bytes unless its kind is 3
 -- the first ten bytes of a file that is formed are those that are written
 ten : (f : List ℕ) → headBytes ≤ length f
     → take headBytes f
@@ -165,9 +178,15 @@ head-back f bytes e =
     high : (a b : ℕ) → a < 256 → b ≡ (a + b * 2 ^ 8) / 2 ^ 8
     high a b h = omega arith
 
-pub record SameBytes (f p t : List ℕ) : Type 0 where
-  pub done : isDone (writeAnswer (kindOf f) (pingsOf f) (binsOf f) p t) ≡ true
-  pub bytes-same : writeTarget (kindOf f) (pingsOf f) (binsOf f) p t ≡ f ++ drop (length f) t
+-- the file of the same picture and size, with the kind that is reported
+unfoldable pub rewritten : List ℕ → List ℕ
+rewritten f =
+    headOf (reportedKind f) (pingsOf f) (binsOf f)
+    ++ bytesOf (depthOf (kindOf f)) (pictureOf f) (pingsOf f) (binsOf f)
+
+pub record Rewrites (f p t : List ℕ) : Type 0 where
+  pub done : isDone (writeAnswer (reportedKind f) (pingsOf f) (binsOf f) p t) ≡ true
+  pub bytes-same : writeTarget (reportedKind f) (pingsOf f) (binsOf f) p t ≡ rewritten f ++ drop (length f) t
 
 -- what an accepted file tells
 pub record Accepted (f : List ℕ) : Type 0 where
@@ -210,6 +229,10 @@ module _ (f : List ℕ) (bytes : Bytes f) (ok : Accepted f) where
       (faced (depthOf (kindOf f)) (faceOf (kindOf f)) (bodyOf f) (pingsOf f)) (pingsOf f) (binsOf f) t) t)) e
       ∙ take-at pictureIn _ _ (bytes-long (depthOf (kindOf f)) _ (pingsOf f) (binsOf f))
 
+  small : (x y : ℕ) → x < pingsOf f → y < binsOf f → pictureOf f x y ≤ top (depthOf (kindOf f))
+  small x y hx hy =
+      faced-small (depthOf (kindOf f)) (faceOf (kindOf f)) (bodyOf f) body-bytes (pingsOf f) x y
+
   picture-admitted : (t' : List ℕ) → length f ≤ length t'
       → Admitted Free (depthOf (kindOf f)) (pingsOf f) (binsOf f) pictureIn headBytes (length t')
   unfolding pictureIn
@@ -221,38 +244,57 @@ module _ (f : List ℕ) (bytes : Bytes f) (ok : Accepted f) where
         roomy = omega (arith, length-drop headBytes f, ok .whole, ok .long);
       }
 
-  file-back : fileOf (kindOf f) (pingsOf f) (binsOf f) pictureIn ≡ f
-  unfolding fileOf pictureIn
-  file-back =
-      ap₂ (λ a b. a ++ b) (sym (head-back f bytes (ok .is-formed)))
-      (faced-twice (depthOf (kindOf f)) (faceOf (kindOf f)) (bodyOf f) body-bytes (pingsOf f)
-      (binsOf f) (sized-tells (pingsOf f) (binsOf f) (ok .sized) .some-pings) (ok .clear) (ok .whole))
-      ∙ take-append-drop headBytes f
+  file-again : fileOf (reportedKind f) (pingsOf f) (binsOf f) pictureIn ≡ rewritten f
+  unfolding fileOf rewritten pictureIn
+  file-again =
+      ap (λ (d : Depth). headOf (reportedKind f) (pingsOf f) (binsOf f)
+      ++ bytesOf d (valueAt d pictureIn (pingsOf f)) (pingsOf f) (binsOf f)) (reported-depth (kindOf f))
+      ∙ ap (λ l. headOf (reportedKind f) (pingsOf f) (binsOf f) ++ l)
+      (bytes-again (depthOf (kindOf f)) (pictureOf f) (pingsOf f) (binsOf f) small)
 
-  written-back : (t' : List ℕ) → length f ≤ length t' → SameBytes f pictureIn t'
-  unfolding writeAnswer writeTarget unlessRefused
+  written-back : (t' : List ℕ) → length f ≤ length t' → Rewrites f pictureIn t'
   written-back t' room =
-      let done : isDone (writeAnswer (kindOf f) (pingsOf f) (binsOf f) pictureIn t') ≡ true =
-      ap (λ b. isDone (refuse ((not b, 9) ∷ bodyTests Free (depthOf (kindOf f))
-      (pingsOf f) (binsOf f) pictureIn headBytes (length t')) (plain 0))) (ok .known)
-      ∙ body-passes Free (depthOf (kindOf f)) (pingsOf f)
-      (binsOf f) pictureIn headBytes (length t') (picture-admitted t' room) in
+      let depth = depthOf (kindOf f) in
+      let made = reported-made (kindOf f) (ok .known) in
+      let q = write-passes (reportedKind f) (pingsOf f) (binsOf f) pictureIn t' (made .0) (made .1)
+      (subst (λ (d : Depth). Admitted Free d (pingsOf f) (binsOf f) pictureIn headBytes (length t'))
+      (sym (reported-depth (kindOf f))) (picture-admitted t' room)) in
       record {
-        done = done;
+        done = q .0;
         bytes-same =
-            ap (λ b. cond b (fileOf (kindOf f) (pingsOf f) (binsOf f) pictureIn
-            ++ drop (headBytes + pictureBytes (depthOf (kindOf f)) (pingsOf f) (binsOf f)) t') t') done
-            ∙ ap₂ (λ a n. a ++ drop n t') file-back
+            q .1
+            ∙ ap (λ (d : Depth). fileOf (reportedKind f) (pingsOf f) (binsOf f) pictureIn
+            ++ drop (headBytes + pictureBytes d (pingsOf f) (binsOf f)) t') (reported-depth (kindOf f))
+            ∙ ap₂ (λ a n. a ++ drop n t') file-again
             (long-is (length f) (length (bodyOf f)) _ (length-drop headBytes f) (ok .whole) (ok .long));
       }
     where
       long-is : (a b n : ℕ) → b ≡ a - 10 → b ≡ n → 10 ≤ a → 10 + n ≡ a
       long-is a b n e q l = omega arith
 
+  -- a file of kind 1 or 2 is rewritten as it is
+  file-back : (kindOf f ≡ 3 → ⊥) → rewritten f ≡ f
+  unfolding rewritten faced
+  file-back other =
+      let made = ne-eqb (kindOf f) 3 other in
+      ap₂ (λ a b. a ++ b)
+      (ap (λ b. headOf (cond b 1 (kindOf f)) (pingsOf f) (binsOf f)) made
+      ∙ sym (head-back f bytes (ok .is-formed)))
+      (ap (λ b. bytesOf (depthOf (kindOf f))
+      (faced (depthOf (kindOf f)) (cond b TurnedOver AsIs) (bodyOf f) (pingsOf f))
+      (pingsOf f) (binsOf f)) made
+      ∙ bytes-back (depthOf (kindOf f)) (bodyOf f) body-bytes (pingsOf f) (binsOf f)
+      (sized-tells (pingsOf f) (binsOf f) (ok .sized) .some-pings) (ok .clear) (ok .whole))
+      ∙ take-append-drop headBytes f
+
 pub read-then-written : (f t t' : List ℕ) → Bytes f → isDone (readAnswer f (length t)) ≡ true
     → length f ≤ length t'
-    → SameBytes f (take (pictureBytes (depthOf (kindOf f)) (pingsOf f) (binsOf f)) (readTarget f t)) t'
+    → Rewrites f (take (pictureBytes (depthOf (kindOf f)) (pingsOf f) (binsOf f)) (readTarget f t)) t'
 read-then-written f t t' bytes e room =
     let ok = accepted f (length t) e in
-    subst (λ (p : List ℕ). SameBytes f p t')
+    subst (λ (p : List ℕ). Rewrites f p t')
     (sym (picture-read f bytes ok t e)) (written-back f bytes ok t' room)
+
+pub rewritten-same : (f : List ℕ) (room : ℕ) → Bytes f → isDone (readAnswer f room) ≡ true
+    → (kindOf f ≡ 3 → ⊥) → rewritten f ≡ f
+rewritten-same f room bytes e other = file-back f bytes (accepted f room e) other

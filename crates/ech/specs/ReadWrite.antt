@@ -1,7 +1,8 @@
 -- What the reader and the writer answer, and what they leave in the target.
 use Prim.Native.Nat.{ℕ, _+_}
 use mathlib.Core.Bool.{not, cond}
-use mathlib.Core.List.{List, _∷_, _++_}
+use mathlib.Core.List.{List, [], _∷_, _++_}
+use lib.Dec.{eqb}
 use lib.ListN.{length, drop}
 use mathlib.Core.Path.{_≡_}
 use Rattle.answer.specs.declared.Told.{Told}
@@ -11,7 +12,7 @@ use Rattle.answer.specs.Lent.{unlessRefused}
 use Rattle.picture.specs.Frame.{pictureBytes}
 use Rattle.picture.specs.Bytes.{Picture, written, faced}
 use Rattle.judge.specs.declared.Padding.the-variants.{Judged, Free}
-use Rattle.judge.specs.Tests.{bodyTests}
+use Rattle.judge.specs.Tests.{pictureTests, roomTests, bodyTests}
 use Rattle.ech.specs.declared.Header.{Header}
 use Rattle.ech.specs.File.{headBytes, knownKind, depthOf, faceOf, formed}
 use Rattle.ech.specs.File.{kindOf, pingsOf, binsOf, bodyOf, fileOf}
@@ -24,7 +25,7 @@ fileTests f room =
 unfoldable pub readAnswer : List ℕ → ℕ → Told
 readAnswer f room = refuse (fileTests f room) (plain 0)
 
--- the picture that a file holds: in memory kind 3 is the ordinary picture
+-- the picture that a file holds: in memory kind 3, by the file's own byte, is the ordinary picture
 abbrev pub pictureOf : List ℕ → Picture
 pictureOf f = faced (depthOf (kindOf f)) (faceOf (kindOf f)) (bodyOf f) (pingsOf f)
 
@@ -40,9 +41,16 @@ pub record GivenBack (answer-told : Told) (kind-read pings-read bins-read : ℕ)
   pub pings : r .w ≡ cond (isDone answer-told) pings-read 0
   pub bins : r .h ≡ cond (isDone answer-told) bins-read 0
 
--- the writer meets 9 for a kind it does not know, then 1, 2, 8: what stands in the source's padding is free
+-- RETIRED: kind 3 is no longer made
+abbrev pub retiredTests : ℕ → List Test
+retiredTests kind = (eqb kind 3, 15) ∷ []
+
+-- the writer meets 9 for a kind it never knew, then 1, 2, 15, 8: what stands in the source's padding is free
 abbrev pub writeTests : ℕ → ℕ → ℕ → List ℕ → ℕ → List Test
-writeTests kind w h s room = (not (knownKind kind), 9) ∷ bodyTests Free (depthOf kind) w h s headBytes room
+writeTests kind w h s room =
+    (not (knownKind kind), 9)
+    ∷ (pictureTests Free (depthOf kind) w h s
+    ++ (retiredTests kind ++ roomTests (depthOf kind) w h headBytes room))
 
 unfoldable pub writeAnswer : ℕ → ℕ → ℕ → List ℕ → List ℕ → Told
 writeAnswer kind w h s t = refuse (writeTests kind w h s (length t)) (plain 0)

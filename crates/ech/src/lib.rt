@@ -8,12 +8,14 @@ ghost use mathlib.Core.Bool.{true};
 ghost use mathlib.Core.List.{_++_};
 ghost use Prim.Native.Nat.{_+_, _≤_};
 ghost use lib.ListN.{length, drop};
-ghost use Rattle.answer.specs.Answer.{told};
+ghost use Rattle.answer.specs.Answer.{told, plain};
+ghost use Rattle.answer.specs.Refuse.{refuse};
 ghost use Rattle.picture.specs.Frame.{mostPings, mostBins, pictureBytes};
 ghost use Rattle.judge.specs.Tests.{Admitted};
 ghost use Rattle.ech.specs.File.{headBytes, fileOf, twoBytes, knownKind, depthOf};
-ghost use Rattle.ech.specs.File.{faceOf, formed, headOf, kindOf, pingsOf, binsOf};
-ghost use Rattle.ech.specs.ReadWrite.{GivenBack, readAnswer, readTarget, writeAnswer, writeTarget};
+ghost use Rattle.ech.specs.File.{faceOf, reported, reportedKind, formed, headOf, pingsOf, binsOf};
+ghost use Rattle.ech.specs.ReadWrite.{GivenBack, readAnswer, readTarget};
+ghost use Rattle.ech.specs.ReadWrite.{retiredTests, writeAnswer, writeTarget};
 ghost use Rattle.ech.specs.Steps.Body.{refusedAs, bodyAnswer};
 
 // The bytes before the body.
@@ -68,6 +70,16 @@ fn face_of(kind: usize) -> Face
     Face::AsIs
 }
 
+// Kind 3 is retired: its picture is reported as one of kind 1.
+fn reported_kind(kind: usize) -> usize
+    ensures { λ r. ⌜ r ≡ reported kind ⌝ }
+{
+    if kind == 3 {
+        return 1;
+    }
+    kind
+}
+
 // At least ten bytes, the three letters, version 1 and a kind that there is.
 fn is_formed(f: &[u8]) -> bool
     ensures { λ r. ⌜ r ≡ formed (now (f .entry)) ⌝ }
@@ -103,7 +115,7 @@ fn refused(a: Answer) -> Header
 
 // What a read of a body answers, for a file of a known kind and a target of `room` bytes.
 fn judge_body(kind: usize, w: usize, h: usize, body: &[u8], room: usize) -> Header
-    ensures { λ r. ⌜ GivenBack (bodyAnswer kind w h (now (body .entry)) room) kind w h r ⌝ }
+    ensures { λ r. ⌜ GivenBack (bodyAnswer kind w h (now (body .entry)) room) (reported kind) w h r ⌝ }
 {
     let a = judge::refusal(
         Padding::Judged,
@@ -118,7 +130,7 @@ fn judge_body(kind: usize, w: usize, h: usize, body: &[u8], room: usize) -> Head
     if answer::is_done(a) {
         return Header {
             answer: a,
-            kind,
+            kind: reported_kind(kind),
             w,
             h,
         };
@@ -128,7 +140,7 @@ fn judge_body(kind: usize, w: usize, h: usize, body: &[u8], room: usize) -> Head
 
 // What a read of the file answers, for a target of `room` bytes: nothing is written.
 pub fn judge_ech(file: &[u8], room: usize) -> Header
-    ensures { λ r. ⌜ GivenBack (readAnswer (now (file .entry)) room) (kindOf (now (file .entry)))
+    ensures { λ r. ⌜ GivenBack (readAnswer (now (file .entry)) room) (reportedKind (now (file .entry)))
         (pingsOf (now (file .entry))) (binsOf (now (file .entry))) r ⌝ }
 {
     if is_formed(file) {
@@ -141,16 +153,18 @@ pub fn judge_ech(file: &[u8], room: usize) -> Header
 }
 
 // Reads a file's picture into the target; a refusal gives 0 for kind, W and H.
+// The file's own byte says whether its body is turned over: the kind that is reported no longer does.
 pub fn read_ech(file: &[u8], target: &mut [u8]) -> Header
     ensures { λ r. ⌜ GivenBack (readAnswer (now (file .entry)) (length (now (target .entry))))
-        (kindOf (now (file .entry))) (pingsOf (now (file .entry))) (binsOf (now (file .entry))) r ⌝ }
+        (reportedKind (now (file .entry))) (pingsOf (now (file .entry))) (binsOf (now (file .entry))) r ⌝ }
     ensures { λ _. ⌜ now (target .exit) ≡ readTarget (now (file .entry)) (now (target .entry)) ⌝ }
 {
     let head = judge_ech(file, target.len());
     let a = head.answer;
     if answer::is_done(a) {
         let depth = depth_of(head.kind);
-        let face = face_of(head.kind);
+        let own = size(file[5]);
+        let face = face_of(own);
         copies::copy_picture(depth, face, &file[HEAD..], target, head.w, head.h);
         return head;
     }
@@ -189,10 +203,19 @@ fn put_file(kind: usize, w: usize, h: usize, source: &[u8], target: &mut [u8])
         ++ drop (headBytes + pictureBytes (depthOf kind) w h) (now (target .entry)) ⌝ }
 {
     let depth = depth_of(kind);
-    let face = face_of(kind);
     let head = head_of(kind, w, h);
     bytes::copy(&head, target);
-    copies::copy_picture(depth, face, source, &mut target[HEAD..], w, h);
+    copies::copy_picture(depth, Face::AsIs, source, &mut target[HEAD..], w, h);
+}
+
+// What is found of the kind between the picture and its room: kind 3 is no longer made.
+fn retired(kind: usize) -> Answer
+    ensures { λ r. ⌜ told r ≡ refuse (retiredTests kind) (plain 0) ⌝ }
+{
+    if kind == 3 {
+        return Answer::Retired;
+    }
+    Answer::Done
 }
 
 // Writes a picture as a file of the kind.
@@ -203,7 +226,16 @@ pub fn write_ech(kind: usize, w: usize, h: usize, source: &[u8], target: &mut [u
     if is_known(kind) {
         let depth = depth_of(kind);
         let room = target.len();
-        let a = judge::refusal(Padding::Free, depth, w, h, source, Answer::Done, HEAD, room);
+        let a = judge::refusal(
+            Padding::Free,
+            depth,
+            w,
+            h,
+            source,
+            retired(kind),
+            HEAD,
+            room,
+        );
         if answer::is_done(a) {
             put_file(kind, w, h, source, target);
             return a;

@@ -14,7 +14,7 @@ use Rattle.answer.specs.Answer.{plain, isDone}
 use Rattle.answer.specs.Refuse.{refuse}
 use Rattle.answer.specs.Packed.{packed}
 use Rattle.answer.proofs.Packed.{number-few, number-packed}
-use Rattle.ech.specs.File.{kindOf, pingsOf, binsOf}
+use Rattle.ech.specs.File.{reportedKind, pingsOf, binsOf}
 use Rattle.ech.specs.ReadWrite.{fileTests, readAnswer}
 use Rattle.ech.proofs.RoundTrip.{accepted}
 use Rattle.picture.specs.declared.Depth.{Depth}
@@ -65,7 +65,7 @@ unfolding readNumber readTold readAnswer
 read-apart f t =
     let ts = fileTests f (length t) in
     let done = isDone (readAnswer f (length t)) in
-    ap (λ n. readApart (n + cond done (kindOf f) 0 * 2 ^ 8 + cond done (pingsOf f) 0 * 2 ^ 16
+    ap (λ n. readApart (n + cond done (reportedKind f) 0 * 2 ^ 8 + cond done (pingsOf f) 0 * 2 ^ 16
     + cond done (binsOf f) 0 * 4294967296)) (number-packed ts)
     ∙ told-apart (refuse ts (plain 0) .number) _ _ _
     (number-few ts (lit< tt, (lit< tt, (lit< tt, (lit< tt, (lit< tt, tt))))))

@@ -10,8 +10,9 @@ use Rattle.answer.specs.Packed.{packed}
 use Rattle.picture.specs.Frame.{mostPings, mostBins}
 use Rattle.picture.proofs.Sizes.{sized-tells}
 use Rattle.ech.specs.declared.Header.{Header}
-use Rattle.ech.specs.File.{kindOf, pingsOf, binsOf}
+use Rattle.ech.specs.File.{kindOf, reportedKind, pingsOf, binsOf}
 use Rattle.ech.specs.ReadWrite.{readAnswer, GivenBack}
+use Rattle.ech.proofs.Judging.{reported-made}
 use Rattle.ech.proofs.Writing.{known-few}
 use Rattle.ech.proofs.RoundTrip.{Accepted, accepted}
 use Rattle.hostfile.specs.Read.{readNumber}
@@ -21,13 +22,15 @@ abbrev pub Packable : ℕ → ℕ → ℕ → Type 0
 Packable kind w h = (kind ≤ 3) × ((w ≤ mostPings) × (h ≤ mostBins))
 
 pub packable-if : (done : Bool) (f : List ℕ) → (done ≡ true → Accepted f)
-    → Packable (cond done (kindOf f) 0) (cond done (pingsOf f) 0) (cond done (binsOf f) 0)
+    → Packable (cond done (reportedKind f) 0) (cond done (pingsOf f) 0) (cond done (binsOf f) 0)
 packable-if true f so = let a = so refl in
-    let l = sized-tells _ _ (a .sized) in (known-few _ (a .known), (l .few-pings, l .few-bins))
+    let l = sized-tells _ _ (a .sized) in
+    (known-few _ (reported-made (kindOf f) (a .known) .0), (l .few-pings, l .few-bins))
 packable-if false f so = (omega arith, (omega arith, omega arith))
 
 pub read-packable : (f : List ℕ) (room : ℕ) (r : Header)
-    → GivenBack (readAnswer f room) (kindOf f) (pingsOf f) (binsOf f) r → Packable (r .kind) (r .w) (r .h)
+    → GivenBack (readAnswer f room) (reportedKind f) (pingsOf f) (binsOf f) r
+    → Packable (r .kind) (r .w) (r .h)
 read-packable f room r g =
     let p = packable-if (isDone (readAnswer f room)) f (accepted f room) in (
       subst (λ (n : ℕ). n ≤ 3) (sym (g .kind)) (p .0),
@@ -38,7 +41,7 @@ read-packable f room r g =
     )
 
 pub read-packed : (f t : List ℕ) (r : Header) (n : ℕ) → n ≡ packed (told (r .answer))
-    → GivenBack (readAnswer f (length t)) (kindOf f) (pingsOf f) (binsOf f) r
+    → GivenBack (readAnswer f (length t)) (reportedKind f) (pingsOf f) (binsOf f) r
     → n + r .kind * 2 ^ 8 + r .w * 2 ^ 16 + r .h * 4294967296 ≡ readNumber f t
 unfolding readNumber
 read-packed f t r n e g =

@@ -6,7 +6,7 @@ use lib.Bits.{bitAnd}
 use lib.ListN.{length}
 use Rattle.answer.specs.Answer.{isDone}
 use Rattle.answer.specs.Apart.{byteFrom}
-use Rattle.ech.specs.File.{kindOf, pingsOf, binsOf}
+use Rattle.ech.specs.File.{reportedKind, pingsOf, binsOf}
 use Rattle.ech.specs.ReadWrite.{readAnswer}
 use Rattle.picture.specs.declared.Depth.{Depth}
 use Rattle.netpbm.specs.File as pnm
@@ -34,7 +34,7 @@ readTold f t =
     let done = isDone (readAnswer f (length t)) in
     record {
       number = readAnswer f (length t) .number;
-      kind = cond done (kindOf f) 0;
+      kind = cond done (reportedKind f) 0;
       w = cond done (pingsOf f) 0;
       h = cond done (binsOf f) 0;
     }

@@ -5,7 +5,7 @@ use mathlib.Core.List.{List}
 use lib.ListN.{length}
 use Rattle.answer.specs.Answer.{isDone}
 use Rattle.answer.specs.Packed.{packed}
-use Rattle.ech.specs.File.{kindOf, pingsOf, binsOf}
+use Rattle.ech.specs.File.{reportedKind, pingsOf, binsOf}
 use Rattle.ech.specs.ReadWrite.{readAnswer}
 use Rattle.picture.specs.declared.Depth.{Depth}
 use Rattle.netpbm.specs.File as pnm
@@ -15,7 +15,7 @@ use Rattle.netpbm.specs.ReadWrite as files
 unfoldable pub readNumber : List ℕ → List ℕ → ℕ
 readNumber f t =
     let done = isDone (readAnswer f (length t)) in
-    packed (readAnswer f (length t)) + cond done (kindOf f) 0 * 2 ^ 8
+    packed (readAnswer f (length t)) + cond done (reportedKind f) 0 * 2 ^ 8
     + cond done (pingsOf f) 0 * 2 ^ 16 + cond done (binsOf f) 0 * 4294967296
 
 -- of a PBM or PGM file: number + 65536·W + 4294967296·H

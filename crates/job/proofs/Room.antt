@@ -16,7 +16,7 @@ use Rattle.picture.specs.Frame.{mostBins, sizedFrame, pictureBytes}
 use Rattle.picture.specs.Bytes.{paddingClear}
 use Rattle.picture.proofs.Sizes.{sized-tells}
 use Rattle.element.specs.Descriptor.{wellMade, descriptorLength}
-use Rattle.ech.specs.File.{headBytes, depthOf, kindOf, pingsOf, binsOf, bodyOf, formed}
+use Rattle.ech.specs.File.{headBytes, depthOf, kindOf, reportedKind, pingsOf, binsOf, bodyOf, formed}
 use Rattle.ech.proofs.Judging.{formed-tells}
 use Rattle.text.specs.Text.{mostLine, mostText}
 use Rattle.text.proofs.Longest.{most-few}
@@ -80,7 +80,7 @@ module _ (job p r m t : List ℕ) where
       long : ℕ
       long =
           mostText (depthOf (kindOf (fileIn job))) (pingsOf (fileIn job))
-          (binsOf (fileIn job)) (kindOf (fileIn job))
+          (binsOf (fileIn job)) (reportedKind (fileIn job))
 
       body : 2 ≤ length job → length job ≤ mostJob → formed (fileIn job) ≡ true
           → length (bodyOf (fileIn job)) ≡ n → n ≤ 32756
@@ -103,7 +103,7 @@ module _ (job p r m t : List ℕ) where
           (sym (ap (λ b. cond b (plain 8) (plain 0)) (le-ltb (length t) long (omega (
             arith,
             most-few (depthOf (kindOf (fileIn job))) (pingsOf (fileIn job))
-                (binsOf (fileIn job)) (kindOf (fileIn job)),
+                (binsOf (fileIn job)) (reportedKind (fileIn job)),
             lines-short (depthOf (kindOf (fileIn job))) (pingsOf (fileIn job)) (binsOf (fileIn job)) high,
           ))))
           ∙ sym (ap (λ b. cond b (plain 8) (cond (ltb (length t) long) (plain 8) (plain 0)))

@@ -129,6 +129,16 @@ module _ (padding : Padding) (depth : Depth) (w h : ℕ) (s : List ℕ) where
       let t = sized-tells w h z in
       record { some-pings = t .some-pings; few-pings = t .few-pings; few-bins = t .few-bins; long = l }
 
+-- ---- a call's own tests ts between the picture and its room: the three lists are one
+pub between-tests : (padding : Padding) (depth : Depth) (w h : ℕ) (s : List ℕ) (ts : List Test)
+    (before room : ℕ) → Numbered ts
+    → refuse (pictureTests padding depth w h s)
+    (ifDone (refuse ts (plain 0)) (refuse (roomTests depth w h before room) (plain 0)))
+    ≡ refuse (pictureTests padding depth w h s ++ (ts ++ roomTests depth w h before room)) (plain 0)
+between-tests padding depth w h s ts before room some =
+    ap (refuse (pictureTests padding depth w h s)) (two-parts ts (roomTests depth w h before room) some)
+    ∙ in-parts (pictureTests padding depth w h s) (ts ++ roomTests depth w h before room) (plain 0)
+
 -- ---- an operation by one element
 pub picture-numbered : (padding : Padding) (depth : Depth) (w h : ℕ) (s : List ℕ) (us : List Test)
     → Numbered us
@@ -148,9 +158,7 @@ module _ (padding : Padding) (depth : Depth) (w h : ℕ) (s : List ℕ) (made : 
   element-answer shape answer es ea =
       ea ∙ ap (λ x. refuse (pictureTests padding depth w h s)
       (ifDone x (refuse (roomTests depth w h 0 room) (plain 0)))) es
-      ∙ ap (refuse (pictureTests padding depth w h s))
-      (two-parts (shapeTests made) (roomTests depth w h 0 room) (omega arith, tt))
-      ∙ in-parts (pictureTests padding depth w h s) (shapeTests made ++ roomTests depth w h 0 room) (plain 0)
+      ∙ between-tests padding depth w h s (shapeTests made) 0 room (omega arith, tt)
 
   -- and where it is done the picture is admitted, by a descriptor that is well made
   pub element-admitted : (shape answer : Told) → shape ≡ refuse (shapeTests made) (plain 0)

@@ -10,7 +10,7 @@ use lib.ListN.{length}
 use Rattle.answer.specs.declared.Answer.{Answer}
 use Rattle.answer.specs.declared.Answer.the-variants.{Done, Size, Source, Pad, Shape}
 use Rattle.answer.specs.declared.Answer.the-variants.{Overlap, Chain, Split, Room, Form, Job, Netpbm}
-use Rattle.answer.specs.declared.Answer.the-variants.{Marker, Full, Absent, Book}
+use Rattle.answer.specs.declared.Answer.the-variants.{Marker, Full, Absent, Retired, Book}
 use Rattle.answer.specs.declared.Told.{Told}
 use Rattle.answer.specs.Answer.{told, plain, isDone}
 use Rattle.answer.specs.Refuse.{refuse}
@@ -23,7 +23,7 @@ use Rattle.element.specs.Descriptor.{wellMade}
 use Rattle.judge.specs.Tests.{shapeTests}
 use Rattle.judge.proofs.Admitted.{staged}
 use Rattle.ech.specs.declared.Header.{Header}
-use Rattle.ech.specs.File.{depthOf, kindOf, pingsOf, binsOf, bodyOf}
+use Rattle.ech.specs.File.{depthOf, kindOf, reportedKind, pingsOf, binsOf, bodyOf}
 use Rattle.ech.specs.ReadWrite.{fileTests, pictureOf, readAnswer, readTarget, GivenBack}
 use Rattle.ech.proofs.Judging.{file-admitted}
 use Rattle.ech.proofs.Reading.{own-kind, own-pings, own-bins, own-depth}
@@ -72,7 +72,8 @@ module _ (f : List ℕ) (room n : ℕ) (shape : Answer) where
 
 -- the longest text by the numbers that were read
 pub longest-own : (f : List ℕ) (room : ℕ) (r : Header)
-    → GivenBack (readAnswer f room) (kindOf f) (pingsOf f) (binsOf f) r → isDone (told (r .answer)) ≡ true
+    → GivenBack (readAnswer f room) (reportedKind f) (pingsOf f) (binsOf f) r
+    → isDone (told (r .answer)) ≡ true
     → (depth : Depth) (k : ℕ) → depth ≡ depthOf (r .kind) → k ≡ mostText depth (r .w) (r .h) (r .kind)
     → k ≡ longest f
 longest-own f room r g e depth k ed ek =
@@ -146,4 +147,5 @@ number-few Netpbm = omega arith
 number-few Marker = omega arith
 number-few Full = omega arith
 number-few Absent = omega arith
+number-few Retired = omega arith
 number-few Book = omega arith

@@ -22,7 +22,7 @@ use Rattle.element.specs.Shape.{Shape}
 use Rattle.element.specs.Descriptor.{cellsMade, shapeIn}
 use Rattle.element.specs.Record.{elementOf, shapeOf}
 use Rattle.ech.specs.declared.Header.{Header}
-use Rattle.ech.specs.File.{headBytes, depthOf, faceOf, kindOf, pingsOf, binsOf, bodyOf}
+use Rattle.ech.specs.File.{headBytes, depthOf, faceOf, kindOf, reportedKind, pingsOf, binsOf, bodyOf}
 use Rattle.ech.specs.ReadWrite.{pictureOf, readAnswer, readTarget, GivenBack}
 use Rattle.ech.proofs.Reading.{own-kind, own-pings, own-bins, own-depth}
 use Rattle.text.specs.Text.{textOf, mostText}
@@ -43,7 +43,7 @@ same X d d' w w' h h' ed ew eh = ap₂ (λ a b. X a b h) ed ew ∙ ap (λ b. X d
 pub record Lent (f p r m t : List ℕ) (back : Header) (depth : Depth) (u : List ℕ) (n : ℕ) : Type 0 where
   pub bytes : Bytes f
   pub taken : Taken f (shortest p r m) (length t)
-  pub given : GivenBack (readAnswer f (length p)) (kindOf f) (pingsOf f) (binsOf f) back
+  pub given : GivenBack (readAnswer f (length p)) (reportedKind f) (pingsOf f) (binsOf f) back
   pub deep : depth ≡ depthOf (back .kind)
   pub read : u ≡ readTarget f p
   pub size : n ≡ cond (sizedFrame (back .w) (back .h)) (pictureBytes depth (back .w) (back .h)) 0
@@ -66,7 +66,7 @@ module _ {f p r m t : List ℕ} {back : Header} {depth : Depth}
   depth-is : depth ≡ depthOf (kindOf f)
   depth-is = own-depth f p (length p) back (l .given) done depth (l .deep)
 
-  kind-is : back .kind ≡ kindOf f
+  kind-is : back .kind ≡ reportedKind f
   kind-is = own-kind f p (length p) back (l .given) done
 
   -- a fact on the file's own numbers is one on those that were read
@@ -172,7 +172,7 @@ pub worked-read : (d : List ℕ) → cellsMade d ≡ true → Bytes d → (e : E
 unfolding textBy
 worked-read d made bytes e q op f p r m t k p' r' m' t' o =
     let depth = depthOf (kindOf f) in
-    let x = text-read d made bytes e q depth (pingsOf f) (binsOf f) op (pictureOf f) (kindOf f) in
+    let x = text-read d made bytes e q depth (pingsOf f) (binsOf f) op (pictureOf f) (reportedKind f) in
     record {
       length-is = o .length-is ∙ ap length x;
       picture = o .picture;

@@ -14,15 +14,15 @@ use Rattle.element.specs.Shape.{Shape}
 use Rattle.element.specs.Descriptor.{wellMade, shapeIn}
 use Rattle.morphology.specs.Operations.{erode, dilate, opening, closing}
 use Rattle.judge.specs.Tests.{shapeTests}
-use Rattle.ech.specs.File.{depthOf, kindOf, pingsOf, binsOf}
+use Rattle.ech.specs.File.{depthOf, kindOf, reportedKind, pingsOf, binsOf}
 use Rattle.ech.specs.ReadWrite.{fileTests, pictureOf}
 use Rattle.text.specs.Text.{textOf, mostText}
 use Rattle.work.specs.declared.Operation.{Operation}
 use Rattle.work.specs.declared.Operation.the-variants.{Erode, Dilate, Open, Close}
 
--- the longest text of the file f's size and kind
+-- the longest text of the file f's size and reported kind
 abbrev pub longest : List ℕ → ℕ
-longest f = mostText (depthOf (kindOf f)) (pingsOf f) (binsOf f) (kindOf f)
+longest f = mostText (depthOf (kindOf f)) (pingsOf f) (binsOf f) (reportedKind f)
 
 -- ROOM: a text of n bytes is too short for it
 abbrev pub textTests : List ℕ → ℕ → List Test
@@ -59,4 +59,4 @@ abbrev pub resultOf : Operation → List ℕ → List ℕ → Picture
 resultOf op d f = operated op (depthOf (kindOf f)) (pingsOf f) (binsOf f) (shapeIn d) (pictureOf f)
 
 unfoldable pub textIn : Operation → List ℕ → List ℕ → List ℕ
-textIn op d f = textOf (depthOf (kindOf f)) (resultOf op d f) (pingsOf f) (binsOf f) (kindOf f)
+textIn op d f = textOf (depthOf (kindOf f)) (resultOf op d f) (pingsOf f) (binsOf f) (reportedKind f)

@@ -1,5 +1,5 @@
 -- Stands on judge's refusal, of the body alone.
--- Kind, W and H are given back where nothing is refused, and else 0.
+-- The kind that is reported, W and H are given back where nothing is refused, and else 0.
 use Rattle.judge.specs.declared.Padding.the-variants.{Judged}
 use Rattle.judge.specs.Tests.{bodyTests}
 use Rattle.judge.proofs.Bodies.{body-judged}
@@ -20,9 +20,10 @@ judged c = let a = c .before .before .before .args in
     (c .refusal .ensures)
 
 returns : tie.Need-returns
-returns c = let r = c .before .before in
-    body-done _ _ _ _ _ _ _
-    (r .before .depth-of .ensures) (judged r) (sym (c .before .is-done .ensures) ∙ c .if1 .taken)
+returns c = let t = c .before in
+    let r = t .before .before in
+    body-done _ _ _ _ _ _ _ (r .before .depth-of .ensures) (judged r) _ (c .reported-kind .ensures)
+    (sym (t .before .is-done .ensures) ∙ t .if1 .taken)
 
 returns-2 : tie.Need-returns-2
 returns-2 c = let r = c .before .before .before in
@@ -33,6 +34,7 @@ pub judge-body-spec : {M : Type 1} → statement M
 judge-body-spec =
     tie.close
     (tie.spec
+    (λ c κs. search needs)
     (λ c κs. search needs)
     (λ c κs. search needs)
     (λ c κs. search needs)

@@ -17,20 +17,20 @@ use Rattle.ech.proofs.put_file.Statement.{statement}
 use Rattle.ech.proofs.put_file.Tie as tie
 
 head-of-requires : tie.Need-head-of-requires
-head-of-requires c κs = let s = c .before .before .before .before in
+head-of-requires c κs = let s = c .before .before .before in
     let t = sized-tells (s .args .w) (s .args .h) (s .pre .1 .sized) in
     (known-few (s .args .kind) (s .pre .0), (t .few-pings, t .few-bins))
 
 copy-picture-requires : tie.Need-copy-picture-requires
 copy-picture-requires c κs = let h = c .before .before .before .before .before .before in
-    let s = h .before .before .before .before .before in
+    let s = h .before .before .before .before in
     let a = s .args in
     let p = s .pre .1 in
     let u = c .before .before .before .copy .last .1 .0 in
     subst
     (λ (d : Depth). Holds d (length (a .source .now)) (a .w) (a .h)
     × Holds d (length (take (length u - 10) (drop 10 u))) (a .w) (a .h))
-    (sym (h .before .before .depth-of .ensures)) (
+    (sym (h .before .depth-of .ensures)) (
       holds Free _ (a .w) (a .h) (a .source .now) _ (p .sized) (le-of-eq (sym (p .whole))),
       holds Free _ (a .w) (a .h) (a .source .now) _ (p .sized)
           (omega (
@@ -44,9 +44,8 @@ copy-picture-requires c κs = let h = c .before .before .before .before .before 
 
 returns : tie.Need-returns
 returns c = let h = c .before .before .before .before .before .before .before .before .before in
-    let a = h .before .before .before .before .before .args in
-    file-made (a .kind) (a .w) (a .h) _ _ (h .before .before .depth-of .ensures)
-    (h .before .face-of .ensures) (a .source .now)
+    let a = h .before .before .before .before .args in
+    file-made (a .kind) (a .w) (a .h) _ (h .before .depth-of .ensures) (a .source .now)
     (a .target .now) (c .before .before .before .before .before .before .copy .last .1 .0) _
     (head-copied (a .kind) (a .w) (a .h) _ (a .target .now) _ (h .head-of .ensures)
     (c .before .before .before .before .before .before .copy .ensures .1))
@@ -56,7 +55,6 @@ pub put-file-spec : {M : Type 1} → statement M
 put-file-spec =
     tie.close
     (tie.spec
-    (λ c κs. search needs)
     (λ c κs. search needs)
     head-of-requires
     (λ c. search needs)

@@ -1,15 +1,10 @@
--- Stands on is_known, judge's refusal and put_file: what nothing refuses is admitted, and is written.
+-- Stands on is_known, retired, refusal and put_file: what nothing refuses is admitted, and is written.
 -- A refusal writes nothing.
-use Rattle.judge.specs.declared.Padding.the-variants.{Free}
-use Rattle.judge.specs.Tests.{bodyTests}
-use Rattle.judge.proofs.Bodies.{body-judged}
 use Rattle.ech.proofs.Judging.{write-admitted}
 use Rattle.ech.proofs.Writing.{unknown, write-answer, write-done, write-refused}
-use Rattle.ech.specs.File.{headBytes, knownKind}
+use Rattle.ech.specs.File.{knownKind}
 use Rattle.answer.specs.declared.Answer.the-variants.{Form}
-use Rattle.answer.specs.Answer.{told, plain, isDone}
-use Rattle.answer.specs.Refuse.{refuse}
-use lib.ListN.{length}
+use Rattle.answer.specs.Answer.{told, isDone}
 use mathlib.Core.Bool.{true}
 use mathlib.Core.Path.{_≡_, refl, sym, ap, _∙_}
 use borrow.Author.Needs.{needs}
@@ -19,37 +14,33 @@ use Rattle.ech.proofs.write_ech.Tie as tie
 known : (c : tie.Then1) → knownKind (c .before .before .before .before .args .kind) ≡ true
 known c = sym (c .before .is-known .ensures) ∙ c .if1 .taken
 
-judged : (c : tie.After-refusal) → let a = c .before .before .before .before .before .before .args in
-    let d = c .before .depth-of .result in
-    told (c .refusal .result)
-    ≡ refuse (bodyTests Free d (a .w) (a .h) (a .source .now) headBytes (length (a .target .now))) (plain 0)
-judged c = let a = c .before .before .before .before .before .before .args in
-    body-judged Free (c .before .depth-of .result) (a .w) (a .h)
-    (a .source .now) headBytes (length (a .target .now)) _
-    (c .refusal .ensures)
-
 done : (c : tie.Then2) → isDone (told (c .before .before .refusal .result)) ≡ true
 done c = sym (c .before .is-done .ensures) ∙ c .if2 .taken
 
 put-file-requires : tie.Need-put-file-requires
 put-file-requires c κs = let t = c .before in
     let r = t .before .before in
-    let a = r .before .before .before .before .before .before .args in
-    let e = write-answer (a .kind) (a .w) (a .h) (a .source .now)
-    (a .target .now) (known (r .before .before)) _
-    (r .before .depth-of .ensures) _ (judged r) in
-    write-admitted (a .kind) (a .w) (a .h) (a .source .now) (a .target .now) (ap isDone (sym e) ∙ done t)
+    let d = r .before .before in
+    let a = d .before .before .before .before .before .args in
+    let e = write-answer (a .kind) (a .w) (a .h) (a .source .now) (a .target .now) (known (d .before)) _
+    (d .depth-of .ensures) _ (r .before .retired .ensures) _ (r .refusal .ensures) in
+    let p = write-admitted (a .kind) (a .w) (a .h) (a .source .now) (a .target .now)
+    (ap isDone (sym e) ∙ done t) in
+    (p .0, p .1 .0)
 
 returns : tie.Need-returns
 returns c = let t = c .before .before .before .before in
     let r = t .before .before in
-    write-done _ _ _ _ _ (known (r .before .before)) _ (r .before .depth-of .ensures) _ (judged r) _ (done t)
+    let d = r .before .before in
+    write-done _ _ _ _ _ (known (d .before)) _ (d .depth-of .ensures) _ (r .before .retired .ensures) _
+    (r .refusal .ensures) _ (done t)
     (c .before .before .put-file .ensures)
 
 returns-2 : tie.Need-returns-2
 returns-2 c = let r = c .before .before in
-    write-refused _ _ _ _ _ (known (r .before .before)) _ (r .before .depth-of .ensures) _ (judged r)
-    (sym (c .before .is-done .ensures) ∙ c .if2 .left)
+    let d = r .before .before in
+    write-refused _ _ _ _ _ (known (d .before)) _ (d .depth-of .ensures) _ (r .before .retired .ensures) _
+    (r .refusal .ensures) (sym (c .before .is-done .ensures) ∙ c .if2 .left)
 
 returns-3 : tie.Need-returns-3
 returns-3 c = unknown _ _ _ _ _ Form refl (sym (c .before .is-known .ensures) ∙ c .if1 .left)
@@ -58,6 +49,7 @@ pub write-ech-spec : {M : Type 1} → statement M
 write-ech-spec =
     tie.close
     (tie.spec
+    (λ c κs. search needs)
     (λ c κs. search needs)
     (λ c κs. search needs)
     (λ c κs. search needs)

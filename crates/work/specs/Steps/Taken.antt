@@ -8,7 +8,7 @@ use Rattle.picture.specs.Bytes.{Picture, written}
 use Rattle.element.specs.Shape.{Shape}
 use Rattle.judge.specs.declared.Padding.the-variants.{Judged}
 use Rattle.judge.specs.Tests.{Admitted}
-use Rattle.ech.specs.File.{depthOf, kindOf, pingsOf, binsOf, bodyOf, formed}
+use Rattle.ech.specs.File.{depthOf, kindOf, reportedKind, pingsOf, binsOf, bodyOf, formed}
 use Rattle.ech.specs.ReadWrite.{pictureOf}
 use Rattle.text.specs.Text.{textOf}
 use Rattle.work.specs.declared.Operation.{Operation}
@@ -26,7 +26,7 @@ abbrev pub resultBy : Operation → Shape → List ℕ → Picture
 resultBy op B f = operated op (depthOf (kindOf f)) (pingsOf f) (binsOf f) B (pictureOf f)
 
 unfoldable pub textBy : Operation → Shape → List ℕ → List ℕ
-textBy op B f = textOf (depthOf (kindOf f)) (resultBy op B f) (pingsOf f) (binsOf f) (kindOf f)
+textBy op B f = textOf (depthOf (kindOf f)) (resultBy op B f) (pingsOf f) (binsOf f) (reportedKind f)
 
 -- the buffers p, r, m and t before and p', r', m' and t' after, with k bytes of text
 pub record Worked (op : Operation) (B : Shape) (f p r m t : List ℕ)
