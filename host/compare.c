@@ -883,7 +883,7 @@ static void repadded(void) {
     }
 }
 
-/* the largest frame by the default element at both depths, and a chain of many paths: few, and slow */
+/* the largest frame by the trailing default at both depths, and a chain of many paths: few, and slow */
 static void large(uint64_t seed) {
     static const uint8_t trailing[] = {31, 1, 30, 0, 255, 255, 255, 254}, seven[] = {7, 7, 3, 3, 254, 254, 254, 254, 254, 254, 254};
     for (int i = 0; i < FUNCTIONS; i++) {

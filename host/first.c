@@ -16,7 +16,7 @@ static const char *const drawn[H] = {
     "................................................",
 };
 
-/* The default element: 31 cells, dx from -30 to 0, in one row. Its origin is the last cell, column 30; the rows are packed like a picture's. */
+/* echtext's trailing default: 31 cells, dx from -30 to 0, in one row. Its origin is the last cell, column 30; the rows are packed like a picture's. */
 static const uint8_t trailing[] = {31, 1, 30, 0, 0xff, 0xff, 0xff, 0xfe};
 
 static void print_picture(const char *name, const uint8_t *picture) {

@@ -513,9 +513,9 @@ size_t own_echtext(const uint8_t *job, size_t job_len, char *text) {
     if (job_len < 2 || job_len > 32768) return refused(10, text);
     char way = (char)job[0];
     if (way != 'e' && way != 'd' && way != 'o' && way != 'c') return refused(10, text);
-    if (job[1] > 1) return refused(10, text);
+    if (job[1] > 2) return refused(10, text);
 
-    uint8_t bytes[32768], ours[8] = {31, 1, 30, 0, 255, 255, 255, 254};
+    uint8_t bytes[32768], ours[8] = {31, 1, job[1] == 2 ? 30 : 0, 0, 255, 255, 255, 254};
     memcpy(bytes, job, job_len);
     struct lent rest = {bytes + 2, job_len - 2}, element = {ours, sizeof ours};
     struct element e;

@@ -8,15 +8,15 @@
 /* begin */
 static uint8_t book[QIK_BOOK_BYTES]; /* kept from one run to the next, in whatever memory the device has for it */
 
-/* The default element: 31 cells, dx from -30 to 0, in one row. */
-static const uint8_t trailing[] = {31, 1, 30, 0, 0xff, 0xff, 0xff, 0xfe};
+/* The default element: 31 cells, dx from 0 to 30, in one row. */
+static const uint8_t leading[] = {31, 1, 0, 0, 0xff, 0xff, 0xff, 0xfe};
 
 static int install(uint64_t w, uint64_t h, const uint8_t *source, size_t len, uint8_t *target, uint8_t *scratch) {
     uint64_t got = qik_display_get(book, sizeof book, 0);
     if (qik_get_number(got) == QIK_BOOK) /* no book yet, or a damaged one: whoever owns it starts it afresh */
         if (qik_book_start(book, sizeof book) != QIK_DONE) return 1;
     if (qik_get_number(got) != QIK_DONE) {
-        if (qik_display_put(book, sizeof book, 0, trailing, sizeof trailing) != QIK_DONE) return 1;
+        if (qik_display_put(book, sizeof book, 0, leading, sizeof leading) != QIK_DONE) return 1;
         got = qik_display_get(book, sizeof book, 0);
     }
     /* the descriptor's own bytes in the book: good until the next put, remove or start */
@@ -36,7 +36,7 @@ int main(void) {
     /* 4 bytes of mark, 16 of lengths, then the display's descriptors */
     uint64_t got = qik_display_get(book, sizeof book, 0);
     printf("place %u, length %u\n", (unsigned)qik_get_place(got), (unsigned)qik_get_length(got));
-    bad |= qik_get_place(got) != 20 || qik_get_length(got) != sizeof trailing;
+    bad |= qik_get_place(got) != 20 || qik_get_length(got) != sizeof leading;
 
     /* bytes that the book gave are copied before they are put again: lent buffers do not overlap */
     uint8_t copy[8];
@@ -47,7 +47,8 @@ int main(void) {
     bad |= qik_get_place(qik_display_get(book, sizeof book, 3)) != 20; /* it moved up */
     bad |= qik_display_tidy(book, sizeof book) != QIK_DONE;
 
-    /* the export has its own numbers and its own room */
+    /* the export has its own numbers and its own room, and keeps the trailing element */
+    static const uint8_t trailing[] = {31, 1, 30, 0, 0xff, 0xff, 0xff, 0xfe};
     bad |= qik_get_number(qik_export_get(book, sizeof book, 3)) != QIK_ABSENT;
     bad |= qik_export_put(book, sizeof book, 3, trailing, sizeof trailing) != QIK_DONE;
     bad |= qik_get_place(qik_export_get(book, sizeof book, 3)) != 1036;

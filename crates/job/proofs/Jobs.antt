@@ -1,7 +1,7 @@
 -- What a job leaves, from what its parts leave.
 use Prim.Native.Nat.{ℕ, _≤_, _<_}
-use mathlib.Core.Path.{_≡_, refl, sym, subst}
-use mathlib.Core.Bool.{Bool, true, false, cond}
+use mathlib.Core.Path.{_≡_, refl, sym, ap, _∙_, subst}
+use mathlib.Core.Bool.{Bool, true, false, not, cond}
 use mathlib.Core.List.{List}
 use native.Mathlib.Omega.{arith}
 use borrow.Author.Tests.{lt-ltb, le-ltb, ne-eqb}
@@ -9,7 +9,7 @@ use lib.Dec.{lit<}
 use lib.ListN.{length, take, drop}
 use Rattle.answer.specs.declared.Answer.the-variants.{Job}
 use Rattle.answer.specs.declared.Told.{Told}
-use Rattle.answer.specs.Answer.{told, isDone}
+use Rattle.answer.specs.Answer.{told, plain, isDone}
 use Rattle.answer.proofs.Lent.{not-done}
 use Rattle.element.specs.Descriptor.{descriptorLength}
 use Rattle.work.specs.declared.Operation.{Operation}
@@ -18,8 +18,8 @@ use Rattle.work.specs.Work.{workAnswer}
 use Rattle.work.specs.Prints.{refusalOf, over, Carried}
 use Rattle.work.proofs.Outcomes.{carried-refused}
 use Rattle.job.specs.declared.Asked.the-variants.{For, Nothing}
-use Rattle.job.specs.Job.{mostJob, letterOf, flagOf, restOf, knownLetter, operationOf}
-use Rattle.job.specs.Job.{defaultElement, elementBy, fileBy, elementIn, fileIn}
+use Rattle.job.specs.Job.{mostJob, letterOf, flagOf, restOf, knownLetter, operationOf, knownFlag}
+use Rattle.job.specs.Job.{defaultElement, trailingElement, elementBy, fileBy, elementIn, fileIn}
 use Rattle.job.specs.Job.{jobAnswer, jobPrinted, jobPicture, jobResult, jobScratch}
 use Rattle.job.specs.Steps.Decided.{askedOf, flagAnswer}
 
@@ -58,29 +58,42 @@ module _ (op : Operation) (rest p r m t : List ℕ) where
       back p' r' m' t'
 
   module _ (flag : ℕ) (back : Outcome) (p' r' m' t' : List ℕ) where
+    -- a flag that is known: what is carried out is by its element, on its file
+    flag-carried : (k : ℕ) (d f : List ℕ) → flag ≡ k → knownFlag k ≡ true → d ≡ elementBy k rest
+        → f ≡ fileBy k rest → CarriedOut d f back p' r' m' t' → Flagged flag back p' r' m' t'
+    unfolding flagAnswer
+    flag-carried k d f e known ed ef c =
+        subst (λ (n : ℕ). Flagged n back p' r' m' t') (sym e)
+        (subst (λ (a : Told). Carried a op (elementBy k rest) (fileBy k rest) p r m t back p' r' m' t')
+        (ap (λ b. cond (not b) (plain 10) (workAnswer (elementBy k rest) (fileBy k rest) p r m t))
+        (sym known))
+        (subst (λ (x : List ℕ). CarriedOut x (fileBy k rest) back p' r' m' t') ed
+        (subst (λ (x : List ℕ). CarriedOut d x back p' r' m' t') ef c)))
+
     pub flag-default : (d : List ℕ) → flag ≡ 0 → d ≡ defaultElement → CarriedOut d rest back p' r' m' t'
         → Flagged flag back p' r' m' t'
-    unfolding flagAnswer elementBy fileBy
-    flag-default d e ed c =
-        subst (λ (k : ℕ). Flagged k back p' r' m' t') (sym e)
-        (subst (λ (x : List ℕ). CarriedOut x rest back p' r' m' t') ed c)
+    unfolding elementBy fileBy
+    flag-default d e ed c = flag-carried 0 d rest e refl ed refl c
+
+    pub flag-trailing : (d : List ℕ) → flag ≡ 2 → d ≡ trailingElement → CarriedOut d rest back p' r' m' t'
+        → Flagged flag back p' r' m' t'
+    unfolding elementBy fileBy
+    flag-trailing d e ed c = flag-carried 2 d rest e refl ed refl c
 
     pub flag-own : (n : ℕ) (f : List ℕ) → flag ≡ 1 → n ≡ descriptorLength rest → f ≡ drop n rest
         → CarriedOut (take n rest) f back p' r' m' t' → Flagged flag back p' r' m' t'
-    unfolding flagAnswer elementBy fileBy
+    unfolding elementBy fileBy
     flag-own n f e en ef c =
-        subst (λ (k : ℕ). Flagged k back p' r' m' t') (sym e)
-        (subst (λ (k : ℕ). CarriedOut (take k rest) (drop k rest) back p' r' m' t') en
-        (subst (λ (x : List ℕ). CarriedOut (take n rest) x back p' r' m' t') ef c))
+        flag-carried 1 (take n rest) f e refl (ap (λ k. take k rest) en) (ef ∙ ap (λ k. drop k rest) en) c
 
-  flag-stops : (flag : ℕ) → (flag ≡ 0 → ⊥) → (flag ≡ 1 → ⊥) → told Job ≡ flagAnswer flag rest p r m t
-  unfolding told flagAnswer
-  flag-stops flag n0 n1 = simp (ne-eqb flag 0 n0, ne-eqb flag 1 n1)
+  module _ (flag : ℕ) (n0 : flag ≡ 0 → ⊥) (n1 : flag ≡ 1 → ⊥) (n2 : flag ≡ 2 → ⊥) where
+    flag-stops : told Job ≡ flagAnswer flag rest p r m t
+    unfolding told flagAnswer
+    flag-stops = simp (ne-eqb flag 0 n0, ne-eqb flag 1 n1, ne-eqb flag 2 n2)
 
-  pub flag-other : (flag : ℕ) (back : Outcome) (t' : List ℕ) → (flag ≡ 0 → ⊥) → (flag ≡ 1 → ⊥)
-      → Refused back t t' → Flagged flag back p r m t'
-  flag-other flag back t' n0 n1 b =
-      carried-refused _ op _ _ p r m t Job (flag-stops flag n0 n1) back t' job-refused (b .0) (b .1)
+    pub flag-other : (back : Outcome) (t' : List ℕ) → Refused back t t' → Flagged flag back p r m t'
+    flag-other back t' b =
+        carried-refused _ op _ _ p r m t Job flag-stops back t' job-refused (b .0) (b .1)
 
 -- ---- the whole job
 module _ (job p r m t : List ℕ) where

@@ -1,7 +1,7 @@
 -- echtext never answers ROOM: its buffers are long enough for every job that nothing else refuses.
 use Prim.Native.Nat.{ℕ, _+_, _-_, _*_, _/_, _≤_}
 use mathlib.Core.Path.{_≡_, refl, sym, ap, _∙_}
-use mathlib.Core.Bool.{Bool, true, false, not, cond}
+use mathlib.Core.Bool.{Bool, true, false, not, cond, _||_}
 use mathlib.Core.List.{List}
 use native.Mathlib.Omega.{arith}
 use native.Mathlib.Nat.{mul-le-mul}
@@ -38,7 +38,7 @@ nothing-more q = let z = ap (λ (t : Told). t .number) q in omega arith
 -- the file is shorter than the job
 file-short : (flag : ℕ) (rest : List ℕ) → length (fileBy flag rest) ≤ length rest
 unfolding fileBy
-file-short flag rest = by (eqb flag 0)
+file-short flag rest = by (eqb flag 0 || eqb flag 2)
   where
     by : (b : Bool) → length (cond b rest (drop (descriptorLength rest) rest)) ≤ length rest
     by true = omega arith

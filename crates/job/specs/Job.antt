@@ -38,19 +38,25 @@ operationOf letter =
     cond (eqb letter 101) Erode (cond (eqb letter 100) Dilate (cond (eqb letter 111) Open Close))
 
 abbrev pub knownFlag : ℕ → Bool
-knownFlag flag = eqb flag 0 || eqb flag 1
+knownFlag flag = eqb flag 0 || (eqb flag 1 || eqb flag 2)
 
--- the default element: 31 cells, dx from -30 to 0, dy 0; as a descriptor
+-- the default element: 31 cells, dx from 0 to 30, dy 0; as a descriptor
 unfoldable pub defaultElement : List ℕ
-defaultElement = 31 ∷ 1 ∷ 30 ∷ 0 ∷ 255 ∷ 255 ∷ 255 ∷ 254 ∷ []
+defaultElement = 31 ∷ 1 ∷ 0 ∷ 0 ∷ 255 ∷ 255 ∷ 255 ∷ 254 ∷ []
 
--- the element's descriptor: flag 0 takes the default;
+-- the trailing default: 31 cells, dx from -30 to 0, dy 0
+unfoldable pub trailingElement : List ℕ
+trailingElement = 31 ∷ 1 ∷ 30 ∷ 0 ∷ 255 ∷ 255 ∷ 255 ∷ 254 ∷ []
+
+-- the element's descriptor: flag 0 takes the default, flag 2 the trailing one;
 -- else it ends where its own w and h say, and the file begins there
 unfoldable pub elementBy : ℕ → List ℕ → List ℕ
-elementBy flag rest = cond (eqb flag 0) defaultElement (take (descriptorLength rest) rest)
+elementBy flag rest =
+    cond (eqb flag 0) defaultElement (cond (eqb flag 2) trailingElement
+    (take (descriptorLength rest) rest))
 
 unfoldable pub fileBy : ℕ → List ℕ → List ℕ
-fileBy flag rest = cond (eqb flag 0) rest (drop (descriptorLength rest) rest)
+fileBy flag rest = cond (eqb flag 0 || eqb flag 2) rest (drop (descriptorLength rest) rest)
 
 abbrev pub elementIn : List ℕ → List ℕ
 elementIn job = elementBy (flagOf job) (restOf job)

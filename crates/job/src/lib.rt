@@ -7,7 +7,7 @@ ghost use mathlib.Core.Path.{_≡_};
 ghost use lib.ListN.{length};
 ghost use Rattle.answer.specs.Answer.{told};
 ghost use Rattle.work.specs.Prints.{over, Carried};
-ghost use Rattle.job.specs.Job.{defaultElement, elementBy, fileBy, jobAnswer};
+ghost use Rattle.job.specs.Job.{defaultElement, trailingElement, elementBy, fileBy, jobAnswer};
 ghost use Rattle.job.specs.Job.{jobPrinted, jobPicture, jobResult, jobScratch};
 ghost use Rattle.job.specs.Steps.Decided.{askedOf, flagAnswer};
 
@@ -17,9 +17,16 @@ pub const MOST_JOB: usize = 32768;
 
 pub const TEXT_ROOM: usize = 262400;
 
-// 31 cells, dx from -30 to 0, dy 0.
+// 31 cells, dx from 0 to 30, dy 0.
 fn default_element() -> [u8; 8]
     ensures { λ r. ⌜ r ≡ defaultElement ⌝ }
+{
+    [31, 1, 0, 0, 255, 255, 255, 254]
+}
+
+// The default that was: 31 cells, dx from -30 to 0, dy 0.
+fn trailing_element() -> [u8; 8]
+    ensures { λ r. ⌜ r ≡ trailingElement ⌝ }
 {
     [31, 1, 30, 0, 255, 255, 255, 254]
 }
@@ -42,7 +49,8 @@ fn asked_of(letter: u8) -> Asked
     }
 }
 
-// By the flag: the default element, or a descriptor that ends where its own w and h say. Another is refused.
+// By the flag: the default element, a descriptor that ends where its own w and h say,
+// or the trailing default. Another is refused.
 fn by_flag(
     op: Operation,
     flag: u8,
@@ -69,6 +77,10 @@ fn by_flag(
         1 => {
             let n = element::descriptor_len(rest);
             work::carry_out(op, &rest[..n], &rest[n..], source, result, scratch, text)
+        }
+        2 => {
+            let descriptor = trailing_element();
+            work::carry_out(op, &descriptor, rest, source, result, scratch, text)
         }
         _ => work::refused(Answer::Job, text),
     }

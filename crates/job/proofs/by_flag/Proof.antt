@@ -1,6 +1,6 @@
--- Stands on carry_out, for the default element or for the parts before and after the descriptor's own end.
+-- Stands on carry_out, for either default or for the parts before and after the descriptor's own end.
 -- Each is the element and the file of its flag; any other flag is refused, and every work buffer stays.
-use Rattle.job.proofs.Jobs.{length-few, flag-default, flag-own, flag-other}
+use Rattle.job.proofs.Jobs.{length-few, flag-default, flag-own, flag-trailing, flag-other}
 use Rattle.basics.proofs.Lists.{tail-is}
 use lib.ListN.{length}
 use lib.Seq.{length-take-le}
@@ -33,8 +33,15 @@ returns-2 c =
 
 returns-3 : tie.Need-returns-3
 returns-3 c =
+    let w = c .before .before .before .before .before .before .before .before in
+    let d = w .before .before .before .before .before .before in
+    flag-trailing _ _ _ _ _ _ _ _ _ _ _ _ _ (d .before .match .keys3) (d .trailing-element .ensures)
+    (w .carry-out3 .ensures)
+
+returns-4 : tie.Need-returns-4
+returns-4 c =
     let k = c .before .before .before .before .match .rest in
-    flag-other _ _ _ _ _ _ _ _ _ (k .0 .1) (k .1) (c .before .before .refused .ensures)
+    flag-other _ _ _ _ _ _ _ (k .0 .0 .1) (k .0 .1) (k .1) _ _ (c .before .before .refused .ensures)
 
 pub by-flag-spec : {M : Type 1} → statement M
 by-flag-spec =
@@ -51,6 +58,9 @@ by-flag-spec =
     (λ c κs. search needs)
     (λ c κs. search needs)
     (λ c. search needs)
+    (λ c κs. search needs)
+    (λ c κs. search needs)
+    (λ c. search needs)
     (λ c. search needs)
     (λ c. search needs)
     (λ c. search needs)
@@ -61,4 +71,9 @@ by-flag-spec =
     (λ c. search needs)
     returns-2
     (λ c. search needs)
-    returns-3)
+    (λ c. search needs)
+    (λ c. search needs)
+    (λ c. search needs)
+    returns-3
+    (λ c. search needs)
+    returns-4)
