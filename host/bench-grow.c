@@ -5,10 +5,10 @@
 #include "bench.h"
 #include "independent.h"
 #include "qiksavlut.h"
+#include "timed.h"
 
 #include <stdio.h>
 #include <string.h>
-#include <time.h>
 
 enum { W = 1024, H = 256, ROW = W / 8, BYTES = ROW * H };
 
@@ -29,30 +29,7 @@ static int run_independent(void) {
 static int run_leptonica(void) { return leptonica_grow(aslant), 1; }
 #endif
 
-static double now(void) {
-    struct timespec t;
-    clock_gettime(CLOCK_PROCESS_CPUTIME_ID, &t);
-    return (double)t.tv_sec + 1e-9 * (double)t.tv_nsec;
-}
-
-/* the seconds of the best run among those of a fifth of a second; less than 0 where it is refused */
-static double best(int (*run)(void)) {
-    double least = -1, all = 0;
-    while (all < 0.2) {
-        double from = now();
-        if (!run()) return -1;
-        double t = now() - from;
-        all += t;
-        if (least < 0 || t < least) least = t;
-    }
-    return least;
-}
-
 /* ---- masks */
-
-static uint32_t seed = 7;
-
-static uint32_t draw(void) { return (seed = seed * 1664525u + 1013904223u) >> 8; }
 
 static void set(uint8_t *a, int x, int y) { a[y * ROW + x / 8] |= (uint8_t)(128 >> x % 8); }
 

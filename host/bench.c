@@ -5,10 +5,10 @@
 #include "independent.h"
 #include "plain.h"
 #include "qiksavlut.h"
+#include "timed.h"
 
 #include <stdio.h>
 #include <string.h>
-#include <time.h>
 
 enum { W = 1024, H = 256, MOST = W * H };
 
@@ -75,30 +75,7 @@ static const struct {
 
 enum { LIBRARY, WHO = sizeof who / sizeof *who };
 
-static double now(void) {
-    struct timespec t;
-    clock_gettime(CLOCK_PROCESS_CPUTIME_ID, &t);
-    return (double)t.tv_sec + 1e-9 * (double)t.tv_nsec;
-}
-
-/* the seconds of the best run among those of a fifth of a second; less than 0 where it is refused */
-static double best(int (*run)(void)) {
-    double least = -1, all = 0;
-    while (all < 0.2) {
-        double from = now();
-        if (!run()) return -1;
-        double t = now() - from;
-        all += t;
-        if (least < 0 || t < least) least = t;
-    }
-    return least;
-}
-
 /* ---- inputs */
-
-static uint32_t seed = 7;
-
-static uint32_t draw(void) { return (seed = seed * 1664525u + 1013904223u) >> 8; }
 
 /* echoes of a level that rises and falls, with splashes and noise */
 static void make_source(void) {

@@ -1,6 +1,7 @@
 /* compare SEED ROUNDS: the library beside the independent implementation, on ROUNDS random calls of each function, many of them damaged. The answer and every
  * byte of every buffer, those around it too, must be the same. First the rows of document 01's table, with bytes written by hand. The same seed makes the
  * same calls. It exits with 1 if anything differs, or if a refusal that a function can give was not met in 500 rounds or more. */
+#include "chance.h"
 #include "independent.h"
 #include "qiksavlut.h"
 
@@ -10,25 +11,12 @@
 
 /* ---- chance */
 
-static uint64_t state;
-
-static uint64_t draw(void) {
-    uint64_t z = state += 0x9e3779b97f4a7c15u;
-    z = (z ^ z >> 30) * 0xbf58476d1ce4e5b9u;
-    z = (z ^ z >> 27) * 0x94d049bb133111ebu;
-    return z ^ z >> 31;
-}
-
 /* the place in the order of chance at which a round of a function begins, whatever other functions there are */
 static void begin(uint64_t seed, const char *name, uint64_t round) {
     state = seed;
     while (*name) state = state * 1099511628211u + (uint64_t)*name++;
     state = state * 1000003u + round;
 }
-
-static int below(int n) { return (int)(draw() % (uint64_t)n); }
-static int from_to(int a, int z) { return a + below(z - a + 1); }
-static int chance(int percent) { return below(100) < percent; }
 
 /* ---- lent buffers: each twice, for the library and for the independent implementation, with bytes around it that nobody may touch */
 

@@ -2,27 +2,13 @@
  * answer, every byte of the buffer and those around it must be the same after each call; and on a book that was started and not damaged the answers, and the bytes that get gives, must be
  * those of the party's own map, whatever the other does. In some histories the book goes on in a longer or a shorter buffer, in some a byte is damaged, and some aim at FULL. The
  * same seed makes the same calls. It exits with 1 if anything differs, or if a number that a function can give was not met in 500 rounds or more. */
+#include "chance.h"
 #include "ownbook.h"
 #include "qiksavlut.h"
 
 #include <stdio.h>
 #include <stdlib.h>
 #include <string.h>
-
-/* ---- chance */
-
-static uint64_t state;
-
-static uint64_t draw(void) {
-    uint64_t z = state += 0x9e3779b97f4a7c15u;
-    z = (z ^ z >> 30) * 0xbf58476d1ce4e5b9u;
-    z = (z ^ z >> 27) * 0x94d049bb133111ebu;
-    return z ^ z >> 31;
-}
-
-static int below(int n) { return (int)(draw() % (uint64_t)n); }
-static int from_to(int a, int z) { return a + below(z - a + 1); }
-static int chance(int percent) { return below(100) < percent; }
 
 /* ---- the two books, with bytes around them that nobody may touch, and the map */
 
