@@ -1,5 +1,5 @@
-/* The finder of the independent implementation: runs those lines of crates/chaincases/stdin that ask the finder, and prints of each what the proved
- * program `chaincases` must print. C cannot call the library's own finder, which lends a part of a buffer. */
+/* The finder of the independent implementation: runs those lines of crates/checkcases/stdin that ask the finder, and prints of each what the proved
+ * program `checkcases` must print. C cannot call the library's own finder, which lends a part of a buffer. */
 #include "independent.h"
 
 #include <stdio.h>

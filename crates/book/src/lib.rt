@@ -116,7 +116,7 @@ pub fn put(book: &mut [u8], party: Party, n: usize, d: &[u8]) -> Answer
     if book_made(&book[..]) {
         let at = share_at(party);
         let end = at + SHARE;
-        return share::put(&mut book[at..end], NUMBERS, ROOM, n, d);
+        return sharework::put(&mut book[at..end], NUMBERS, ROOM, n, d);
     }
     Answer::Book
 }
@@ -129,7 +129,7 @@ pub fn remove(book: &mut [u8], party: Party, n: usize) -> Answer
     if book_made(&book[..]) {
         let at = share_at(party);
         let end = at + SHARE;
-        return share::remove(&mut book[at..end], NUMBERS, ROOM, n);
+        return sharework::remove(&mut book[at..end], NUMBERS, ROOM, n);
     }
     Answer::Book
 }

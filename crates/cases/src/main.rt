@@ -1,12 +1,10 @@
 // Runs the jobs of its input, a line each, and prints of each what it answers and every buffer that was lent:
-// the flat operations, top-hats and gradients, and copies.
+// the flat operations.
 // tools/cases makes the lines, says what their letters and numbers mean, and makes what must be printed.
 use answer::Answer;
-use judge::Padding;
 use libc::STDIN_FILENO;
 use lines::Head;
 use picture::Depth;
-use picture::Face;
 ghost use mathlib.Core.Path.{_≡_};
 ghost use lib.ListN.{length};
 
@@ -17,38 +15,12 @@ fn room() -> [u8; 262146]
     [0; 262146]
 }
 
-// A copy as it is or turned over, whatever the padding.
-fn copied(
-    depth: Depth,
-    face: Face,
-    w: usize,
-    h: usize,
-    source: &[u8],
-    target: &mut [u8],
-) -> Answer {
-    let a = judge::refusal(
-        Padding::Free,
-        depth,
-        w,
-        h,
-        source,
-        Answer::Done,
-        0,
-        target.len(),
-    );
-    if answer::is_done(a) {
-        copies::copy_picture(depth, face, source, target, w, h);
-    }
-    a
-}
-
 fn call(
     head: Head,
     target: &mut [u8],
     scratch: &mut [u8],
     source: &[u8],
     element: &[u8],
-    other: &[u8],
 ) -> Answer {
     let letter = head.letter;
     let depth = head.depth;
@@ -58,25 +30,13 @@ fn call(
         b'e' => flat::erode(depth, w, h, source, element, target),
         b'd' => flat::dilate(depth, w, h, source, element, target),
         b'o' => flat::open(depth, w, h, source, element, target, scratch),
-        b'c' => flat::close(depth, w, h, source, element, target, scratch),
-        b'w' => differences::white_tophat(depth, w, h, source, element, target, scratch),
-        b'b' => differences::black_tophat(depth, w, h, source, element, target, scratch),
-        b'g' => differences::gradient(depth, w, h, source, element, target, scratch),
-        b'a' => copied(depth, Face::AsIs, w, h, source, target),
-        _ => copied(depth, Face::TurnedOver, w, h, source, target),
+        _ => flat::close(depth, w, h, source, element, target, scratch),
     }
 }
 
 // The call, and what came of it.
-fn run(
-    head: Head,
-    target: &mut [u8],
-    scratch: &mut [u8],
-    source: &[u8],
-    element: &[u8],
-    other: &[u8],
-) {
-    show::answered(call(head, target, scratch, source, element, other));
+fn run(head: Head, target: &mut [u8], scratch: &mut [u8], source: &[u8], element: &[u8]) {
+    show::answered(call(head, target, scratch, source, element));
     show::buffer(b"target", target);
     show::buffer(b"scratch", scratch);
 }
@@ -85,17 +45,14 @@ fn run(
 fn given(head: Head, line: &[u8], at: usize, target: &mut [u8], scratch: &mut [u8]) {
     let mut source = room();
     let mut element = io::buffer();
-    let mut other = io::buffer();
     let s = lines::buffer_at(line, at, &mut source);
     let e = lines::buffer_at(line, s.next, &mut element);
-    let o = lines::buffer_at(line, e.next, &mut other);
     run(
         head,
         target,
         scratch,
         &source[..s.value],
         &element[..e.value],
-        &other[..o.value],
     );
 }
 

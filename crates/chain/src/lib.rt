@@ -47,7 +47,7 @@ fn read_links(none: [Element; MOST_LINKS], d: &[u8], k: usize) -> Links
     let mut at = 0;
     while i < k {
         let end = at + element::descriptor_len(&d[at..]);
-        let read = element::read_element(&d[at..end]);
+        let read = reader::read_element(&d[at..end]);
         let answer = read.answer;
         let e = read.element;
         let outline = e.outline;
@@ -83,7 +83,7 @@ pub fn checked_links(element: &[u8], links: usize, chain: &[u8]) -> Links
     ensures { λ r. ⌜ ReadAs (checked (now (element .entry)) links (now (chain .entry)))
         links (now (chain .entry)) r ⌝ }
 {
-    let whole = element::read_element(element);
+    let whole = reader::read_element(element);
     let answer = whole.answer;
     let e = whole.element;
     let none = [e; MOST_LINKS];

@@ -1,5 +1,5 @@
 // Runs the jobs of its input, a line each, and prints of each what it answers and every buffer that was lent:
-// checks of chains, chained runs, and the finder.
+// chained runs.
 // tools/cases makes the lines, says what their letters and numbers mean, and makes what must be printed.
 use answer::Answer;
 use libc::STDIN_FILENO;
@@ -21,8 +21,7 @@ fn call(
     let k = head.links;
     match letter {
         b'l' => chained::erode(depth, w, h, source, element, k, other, target, scratch),
-        b'm' => chained::dilate(depth, w, h, source, element, k, other, target, scratch),
-        _ => chain::check_chain(element, k, other),
+        _ => chained::dilate(depth, w, h, source, element, k, other, target, scratch),
     }
 }
 
@@ -69,21 +68,6 @@ fn job(letter: u8, line: &[u8]) {
     let mut scratch = io::buffer();
     let t = lines::buffer_at(line, head.next, &mut target);
     let u = lines::buffer_at(line, t.next, &mut scratch);
-    if letter == b'f' {
-        let depth: Depth = head.depth;
-        show::buffer(
-            b"last",
-            finder::last_picture(
-                &target[..t.value],
-                &scratch[..u.value],
-                depth,
-                head.w,
-                head.h,
-                head.links,
-            ),
-        );
-        return;
-    }
     given(
         head,
         line,

@@ -35,8 +35,8 @@ use Rattle.ech.specs.File.{reportedKind, pingsOf, binsOf}
 use Rattle.ech.specs.ReadWrite.{readAnswer, readTarget, writeAnswer, writeTarget}
 use Rattle.ech.proofs.read_ech.Kinds as read-kinds
 use Rattle.ech.proofs.read_ech.Reads as read-reads
-use Rattle.ech.proofs.write_ech.Kinds as write-kinds
-use Rattle.ech.proofs.write_ech.Reads as write-reads
+use Rattle.echwrite.proofs.write_ech.Kinds as write-kinds
+use Rattle.echwrite.proofs.write_ech.Reads as write-reads
 use Rattle.demands.specs.Demands.{Every, Exactly, Kept}
 use Rattle.demands.proofs.Laws.{refused-not, exactly-of, kept-of}
 use Rattle.demands.specs.Calls.{call, testsOnce, twice, roomTwice, testsTwice}

@@ -31,9 +31,9 @@ use Rattle.netpbm.proofs.RoundTrip.{SamePicture, written-then-read, read-then-w
 use Rattle.netpbm.proofs.read_pbm.Kinds as read-kinds
 use Rattle.netpbm.proofs.read_pbm.Reads as read-pbm
 use Rattle.netpbm.proofs.read_pgm.Reads as read-pgm
-use Rattle.netpbm.proofs.write_pbm.Kinds as write-kinds
-use Rattle.netpbm.proofs.write_pbm.Reads as write-pbm
-use Rattle.netpbm.proofs.write_pgm.Reads as write-pgm
+use Rattle.pnmwrite.proofs.write_pbm.Kinds as write-kinds
+use Rattle.pnmwrite.proofs.write_pbm.Reads as write-pbm
+use Rattle.pnmwrite.proofs.write_pgm.Reads as write-pgm
 use Rattle.demands.specs.Demands.{Every, Exactly, Kept}
 use Rattle.demands.specs.PnmCalls.{PnmWrite, pnmWrite, testsPnmWrite, PnmRead, pnmRead, testsPnmRead}
 use Rattle.demands.specs.Netpbm.{pnmPicture, pnmFile, PnmReadBack, PnmWrittenThenRead}

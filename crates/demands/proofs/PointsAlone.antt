@@ -29,8 +29,8 @@ use Rattle.ech.specs.File.{headBytes, knownKind, depthOf, headOf, fileOf}
 use Rattle.ech.specs.ReadWrite.{retiredTests, writeAnswer, writeTarget}
 use Rattle.netpbm.specs.File as pnm-file
 use Rattle.netpbm.specs.ReadWrite as pnm
-use Rattle.netpbm.proofs.write_pbm.Kinds as pbm-kinds
-use Rattle.netpbm.proofs.write_pbm.Reads as pbm-reads
+use Rattle.pnmwrite.proofs.write_pbm.Kinds as pbm-kinds
+use Rattle.pnmwrite.proofs.write_pbm.Reads as pbm-reads
 use Rattle.flat.proofs.erode.Kinds as erode-kinds
 use Rattle.flat.proofs.erode.Reads as erode-reads
 use Rattle.flat.proofs.dilate.Kinds as dilate-kinds
@@ -51,8 +51,8 @@ use Rattle.chained.proofs.erode.Kinds as run-erode-kinds
 use Rattle.chained.proofs.erode.Reads as run-erode-reads
 use Rattle.chained.proofs.dilate.Kinds as run-dilate-kinds
 use Rattle.chained.proofs.dilate.Reads as run-dilate-reads
-use Rattle.ech.proofs.write_ech.Kinds as write-kinds
-use Rattle.ech.proofs.write_ech.Reads as write-reads
+use Rattle.echwrite.proofs.write_ech.Kinds as write-kinds
+use Rattle.echwrite.proofs.write_ech.Reads as write-reads
 use Rattle.demands.specs.Demands.{Every}
 use Rattle.demands.specs.Calls.{Call, call, Twice, twice, roomTwice}
 use Rattle.demands.specs.HitCalls.{hitCall}

@@ -7,7 +7,7 @@ use contract.Lifetimes.{Lfts}
 use lib.ListN.{length}
 use Rattle.answer.specs.Refuse.{Test}
 use Rattle.ech.specs.ReadWrite.{fileTests, writeTests}
-use Rattle.ech.proofs.write_ech.Kinds as write
+use Rattle.echwrite.proofs.write_ech.Kinds as write
 use Rattle.ech.proofs.read_ech.Kinds as read
 
 -- the arguments of each, and its target before and after

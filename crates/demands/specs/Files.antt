@@ -17,8 +17,8 @@ use Rattle.picture.specs.Bytes.{bytesOf, written, paddingClear}
 use Rattle.ech.specs.declared.Header.{Header}
 use Rattle.ech.specs.File.{headBytes, depthOf, kindOf, pingsOf, binsOf, headOf}
 use Rattle.ech.specs.ReadWrite.{pictureOf}
-use Rattle.ech.proofs.write_ech.Kinds as write-kinds
-use Rattle.ech.proofs.write_ech.Reads as write
+use Rattle.echwrite.proofs.write_ech.Kinds as write-kinds
+use Rattle.echwrite.proofs.write_ech.Reads as write
 use Rattle.ech.proofs.read_ech.Kinds as read-kinds
 use Rattle.ech.proofs.read_ech.Reads as read
 use Rattle.demands.specs.Demands.{Every}

@@ -17,7 +17,7 @@ use Rattle.picture.specs.Points.{valueAt}
 use Rattle.picture.specs.Bytes.{written, paddingClear}
 use Rattle.netpbm.specs.declared.Header.{Header}
 use Rattle.netpbm.specs.File.{pingsOf, binsOf, rasterOf, headOf}
-use Rattle.netpbm.proofs.write_pbm.Kinds as write
+use Rattle.pnmwrite.proofs.write_pbm.Kinds as write
 use Rattle.netpbm.proofs.read_pbm.Kinds as read
 use Rattle.demands.specs.Demands.{Every}
 use Rattle.demands.specs.PnmCalls.{PnmWrite, pnmWrite, PnmRead, pnmRead}

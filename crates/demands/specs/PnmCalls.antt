@@ -8,7 +8,7 @@ use lib.ListN.{length}
 use Rattle.answer.specs.Refuse.{Test}
 use Rattle.picture.specs.declared.Depth.{Depth}
 use Rattle.netpbm.specs.ReadWrite.{readTests, writeTests}
-use Rattle.netpbm.proofs.write_pbm.Kinds as write
+use Rattle.pnmwrite.proofs.write_pbm.Kinds as write
 use Rattle.netpbm.proofs.read_pbm.Kinds as read
 
 -- the arguments of each, and its target before and after

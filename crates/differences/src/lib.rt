@@ -94,7 +94,7 @@ fn run(
         ≡ flatLeft depth (middleBy which depth) w h (now (source .entry)) (now (element .entry))
         (min (length (now (target .entry))) (length (now (scratch .entry)))) (now (scratch .entry)) ⌝ }
 {
-    let read = element::read_element(element);
+    let read = reader::read_element(element);
     let shape = read.answer;
     let e = read.element;
     let room = basics::lesser(target.len(), scratch.len());

@@ -14,8 +14,8 @@ use Rattle.ech.proofs.judge_ech.Kinds as judge-ech-kinds
 use Rattle.ech.proofs.judge_ech.Reads as judge-ech
 use Rattle.ech.proofs.read_ech.Kinds as read-ech-kinds
 use Rattle.ech.proofs.read_ech.Reads as read-ech
-use Rattle.ech.proofs.write_ech.Kinds as write-ech-kinds
-use Rattle.ech.proofs.write_ech.Reads as write-ech
+use Rattle.ech.proofs.is_known.Kinds as is-known-kinds
+use Rattle.ech.proofs.is_known.Reads as is-known
 
 -- what is given back is settled by its answer
 same-header : (t : Told) (kind w h : ℕ) (x y : Header)
@@ -40,9 +40,5 @@ pub read-ech-settled-target : SettlesBytes 2 read-ech-kinds.ps
     read-ech-kinds.r read-ech.Learnt (λ κs e. e .1 .0 .now)
 read-ech-settled-target κs a x y s t p q = settled (p .1) (q .1)
 
-pub write-ech-settled : Settles 2 write-ech-kinds.ps write-ech-kinds.r write-ech.Learnt
-write-ech-settled κs a x y s t p q = same-answer x y _ (p .0) (q .0)
-
-pub write-ech-settled-target : SettlesBytes 2 write-ech-kinds.ps
-    write-ech-kinds.r write-ech.Learnt (λ κs e. e .1 .1 .1 .1 .0 .now)
-write-ech-settled-target κs a x y s t p q = settled (p .1) (q .1)
+pub is-known-settled : Settles 0 is-known-kinds.ps is-known-kinds.r is-known.Learnt
+is-known-settled κs a x y s t p q = settled p q

@@ -82,7 +82,7 @@ fn at_fault(
     let sum = reach::holds(words, zero, at);
     if has(cells, outline, at) {
         if sum {
-            return !reach::path(links, k, at);
+            return !paths::path(links, k, at);
         }
         return true;
     }
@@ -108,7 +108,7 @@ pub fn check(e: Element, links: [Link; MOST_LINKS], k: usize) -> Answer
 {
     let cells = e.rows;
     let outline = e.outline;
-    let sums = reach::all_sums(links, k);
+    let sums = paths::all_sums(links, k);
     let words = sums.words;
     let mut n = 0;
     while n < ALL {

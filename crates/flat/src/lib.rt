@@ -33,7 +33,7 @@ fn run(
         ≡ flatLeft depth (onceBy (growsOf way) depth) w h (now (source .entry)) (now (element .entry))
         (length (now (target .entry))) (now (target .entry)) ⌝ }
 {
-    let read = element::read_element(element);
+    let read = reader::read_element(element);
     let shape = read.answer;
     let e = read.element;
     let room = target.len();
@@ -70,7 +70,7 @@ fn run_twice(
         ≡ flatLeft depth (onceBy (growsOf first) depth) w h (now (source .entry)) (now (element .entry))
         (min (length (now (target .entry))) (length (now (scratch .entry)))) (now (scratch .entry)) ⌝ }
 {
-    let read = element::read_element(element);
+    let read = reader::read_element(element);
     let shape = read.answer;
     let e = read.element;
     let room = basics::lesser(target.len(), scratch.len());

@@ -149,8 +149,8 @@ fn read_pair(hit: &[u8], miss: &[u8]) -> Pair
         × ((r .hit ≡ cond (wellMade (now (hit .entry))) (elementOf (now (hit .entry))) nothing)
         × (r .miss ≡ cond (wellMade (now (miss .entry))) (elementOf (now (miss .entry))) nothing)) ⌝ }
 {
-    let first = element::read_element(hit);
-    let second = element::read_element(miss);
+    let first = reader::read_element(hit);
+    let second = reader::read_element(miss);
     let a = first.element;
     let b = second.element;
     let hits = a.rows;

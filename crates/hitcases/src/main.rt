@@ -1,28 +1,12 @@
 // Runs the jobs of its input, a line each, and prints of each what it answers and every buffer that was lent:
-// hit-or-miss and the weighted operations.
+// hit-or-miss.
 // tools/cases makes the lines, says what their letters and numbers mean, and makes what must be printed.
 use answer::Answer;
 use libc::STDIN_FILENO;
 use lines::Head;
 
-fn call(
-    head: Head,
-    target: &mut [u8],
-    scratch: &mut [u8],
-    source: &[u8],
-    element: &[u8],
-    other: &[u8],
-) -> Answer {
-    let letter = head.letter;
-    let w = head.w;
-    let h = head.h;
-    match letter {
-        b'E' => weighted::erode(w, h, source, element, target),
-        b'D' => weighted::dilate(w, h, source, element, target),
-        b'O' => weighted::open(w, h, source, element, target, scratch),
-        b'C' => weighted::close(w, h, source, element, target, scratch),
-        _ => hit::hit_or_miss(w, h, source, element, other, target),
-    }
+fn call(head: Head, target: &mut [u8], source: &[u8], element: &[u8], other: &[u8]) -> Answer {
+    hit::hit_or_miss(head.w, head.h, source, element, other, target)
 }
 
 // The call, and what came of it.
@@ -34,7 +18,7 @@ fn run(
     element: &[u8],
     other: &[u8],
 ) {
-    show::answered(call(head, target, scratch, source, element, other));
+    show::answered(call(head, target, source, element, other));
     show::buffer(b"target", target);
     show::buffer(b"scratch", scratch);
 }
@@ -42,7 +26,7 @@ fn run(
 // What a call is given, and the call.
 fn given(head: Head, line: &[u8], at: usize, target: &mut [u8], scratch: &mut [u8]) {
     let mut source = io::buffer();
-    let mut element = io::large_buffer();
+    let mut element = io::buffer();
     let mut other = io::buffer();
     let s = lines::buffer_at(line, at, &mut source);
     let e = lines::buffer_at(line, s.next, &mut element);

@@ -34,7 +34,7 @@ pub extern "C" fn qik_ech_write(kind: u64, w: u64, h: u64, source: &[u8], target
     ensures bytes { λ _. ⌜ now (target .exit)
         ≡ writeTarget kind w h (now (source .entry)) (now (target .entry)) ⌝ }
 {
-    answer::pack(ech::write_ech(kind as usize, w as usize, h as usize, source, target))
+    answer::pack(echwrite::write_ech(kind as usize, w as usize, h as usize, source, target))
 }
 
 #[no_mangle]
@@ -55,7 +55,7 @@ pub extern "C" fn qik_pbm_write(w: u64, h: u64, source: &[u8], target: &mut [u8]
     ensures bytes { λ _. ⌜ now (target .exit)
         ≡ files.writeTarget Depth.OneBit w h (now (source .entry)) (now (target .entry)) ⌝ }
 {
-    answer::pack(netpbm::write_pbm(w as usize, h as usize, source, target))
+    answer::pack(pnmwrite::write_pbm(w as usize, h as usize, source, target))
 }
 
 #[no_mangle]
@@ -76,5 +76,5 @@ pub extern "C" fn qik_pgm_write(w: u64, h: u64, source: &[u8], target: &mut [u8]
     ensures bytes { λ _. ⌜ now (target .exit)
         ≡ files.writeTarget Depth.EightBit w h (now (source .entry)) (now (target .entry)) ⌝ }
 {
-    answer::pack(netpbm::write_pgm(w as usize, h as usize, source, target))
+    answer::pack(pnmwrite::write_pgm(w as usize, h as usize, source, target))
 }

@@ -12,10 +12,6 @@ use Rattle.netpbm.proofs.read_pbm.Kinds as read-pbm-kinds
 use Rattle.netpbm.proofs.read_pbm.Reads as read-pbm
 use Rattle.netpbm.proofs.read_pgm.Kinds as read-pgm-kinds
 use Rattle.netpbm.proofs.read_pgm.Reads as read-pgm
-use Rattle.netpbm.proofs.write_pbm.Kinds as write-pbm-kinds
-use Rattle.netpbm.proofs.write_pbm.Reads as write-pbm
-use Rattle.netpbm.proofs.write_pgm.Kinds as write-pgm-kinds
-use Rattle.netpbm.proofs.write_pgm.Reads as write-pgm
 
 -- what is given back is settled by its answer
 same-header : (t : Told) (w h : ℕ) (x y : Header) → GivenBack t w h x → GivenBack t w h y → x ≡ y
@@ -32,23 +28,9 @@ pub read-pbm-settled-target : SettlesBytes 2 read-pbm-kinds.ps
     read-pbm-kinds.r read-pbm.Learnt (λ κs e. e .1 .0 .now)
 read-pbm-settled-target κs a x y s t p q = settled (p .1) (q .1)
 
-pub write-pbm-settled : Settles 2 write-pbm-kinds.ps write-pbm-kinds.r write-pbm.Learnt
-write-pbm-settled κs a x y s t p q = same-answer x y _ (p .0) (q .0)
-
-pub write-pbm-settled-target : SettlesBytes 2 write-pbm-kinds.ps
-    write-pbm-kinds.r write-pbm.Learnt (λ κs e. e .1 .1 .1 .0 .now)
-write-pbm-settled-target κs a x y s t p q = settled (p .1) (q .1)
-
 pub read-pgm-settled : Settles 2 read-pgm-kinds.ps read-pgm-kinds.r read-pgm.Learnt
 read-pgm-settled κs a x y s t p q = same-header _ _ _ x y (p .0) (q .0)
 
 pub read-pgm-settled-target : SettlesBytes 2 read-pgm-kinds.ps
     read-pgm-kinds.r read-pgm.Learnt (λ κs e. e .1 .0 .now)
 read-pgm-settled-target κs a x y s t p q = settled (p .1) (q .1)
-
-pub write-pgm-settled : Settles 2 write-pgm-kinds.ps write-pgm-kinds.r write-pgm.Learnt
-write-pgm-settled κs a x y s t p q = same-answer x y _ (p .0) (q .0)
-
-pub write-pgm-settled-target : SettlesBytes 2 write-pgm-kinds.ps
-    write-pgm-kinds.r write-pgm.Learnt (λ κs e. e .1 .1 .1 .0 .now)
-write-pgm-settled-target κs a x y s t p q = settled (p .1) (q .1)

@@ -2,23 +2,13 @@
 -- for each public function, of its contract itself, as the prover reads it.
 use Rattle.basics.specs.Settles.{Settles}
 use Rattle.basics.proofs.Settled.{settled}
-use Rattle.reach.proofs.all_sums.Kinds as all-sums-kinds
-use Rattle.reach.proofs.all_sums.Reads as all-sums
 use Rattle.reach.proofs.holds.Kinds as holds-kinds
 use Rattle.reach.proofs.holds.Reads as holds
 use Rattle.reach.proofs.links_of.Kinds as links-of-kinds
 use Rattle.reach.proofs.links_of.Reads as links-of
-use Rattle.reach.proofs.path.Kinds as path-kinds
-use Rattle.reach.proofs.path.Reads as path
-
-pub all-sums-settled : Settles 0 all-sums-kinds.ps all-sums-kinds.r all-sums.Learnt
-all-sums-settled κs a x y s t p q = settled p q
 
 pub holds-settled : Settles 1 holds-kinds.ps holds-kinds.r holds.Learnt
 holds-settled κs a x y s t p q = settled p q
 
 pub links-of-settled : Settles 0 links-of-kinds.ps links-of-kinds.r links-of.Learnt
 links-of-settled κs a x y s t p q = settled p q
-
-pub path-settled : Settles 0 path-kinds.ps path-kinds.r path.Learnt
-path-settled κs a x y s t p q = settled p q

@@ -9,16 +9,14 @@ use Rattle.share.proofs.clear_from.Kinds as clear-from-kinds
 use Rattle.share.proofs.clear_from.Reads as clear-from
 use Rattle.share.proofs.absent_refusal.Kinds as absent-refusal-kinds
 use Rattle.share.proofs.absent_refusal.Reads as absent-refusal
-use Rattle.share.proofs.put.Kinds as put-kinds
-use Rattle.share.proofs.put.Reads as put
-use Rattle.share.proofs.remove.Kinds as remove-kinds
-use Rattle.share.proofs.remove.Reads as remove
 use Rattle.share.proofs.tidy.Kinds as tidy-kinds
 use Rattle.share.proofs.tidy.Reads as tidy
 use Rattle.share.proofs.length_at.Kinds as length-at-kinds
 use Rattle.share.proofs.length_at.Reads as length-at
 use Rattle.share.proofs.place_of.Kinds as place-of-kinds
 use Rattle.share.proofs.place_of.Reads as place-of
+use Rattle.share.proofs.total.Kinds as total-kinds
+use Rattle.share.proofs.total.Reads as total
 
 pub made-settled : Settles 1 made-kinds.ps made-kinds.r made.Learnt
 made-settled κs a x y s t p q = settled p q
@@ -30,18 +28,6 @@ clear-from-settled κs a x y s t p q = settled p q
 pub absent-refusal-settled : Settles 1 absent-refusal-kinds.ps absent-refusal-kinds.r absent-refusal.Learnt
 absent-refusal-settled κs a x y s t p q = same-answer x y _ p q
 
-pub put-settled : Settles 2 put-kinds.ps put-kinds.r put.Learnt
-put-settled κs a x y s t p q = same-answer x y _ (p .0) (q .0)
-
-pub put-settled-bytes : SettlesBytes 2 put-kinds.ps put-kinds.r put.Learnt (λ κs e. e .0 .now)
-put-settled-bytes κs a x y s t p q = settled (p .1) (q .1)
-
-pub remove-settled : Settles 1 remove-kinds.ps remove-kinds.r remove.Learnt
-remove-settled κs a x y s t p q = same-answer x y _ (p .0) (q .0)
-
-pub remove-settled-bytes : SettlesBytes 1 remove-kinds.ps remove-kinds.r remove.Learnt (λ κs e. e .0 .now)
-remove-settled-bytes κs a x y s t p q = settled (p .1) (q .1)
-
 pub tidy-settled : SettlesBytes 1 tidy-kinds.ps tidy-kinds.r tidy.Learnt (λ κs e. e .0 .now)
 tidy-settled κs a x y s t p q = settled p q
 
@@ -50,3 +36,6 @@ length-at-settled κs a x y s t p q = settled (p .0) (q .0)
 
 pub place-of-settled : Settles 1 place-of-kinds.ps place-of-kinds.r place-of.Learnt
 place-of-settled κs a x y s t p q = settled (p .0) (q .0)
+
+pub total-settled : Settles 1 total-kinds.ps total-kinds.r total.Learnt
+total-settled κs a x y s t p q = settled (p .0) (q .0)

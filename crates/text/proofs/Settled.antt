@@ -4,20 +4,11 @@ use Rattle.basics.specs.Settles.{Settles, SettlesBytes}
 use Rattle.basics.proofs.Settled.{settled}
 use Rattle.text.proofs.most_len.Kinds as most-len-kinds
 use Rattle.text.proofs.most_len.Reads as most-len
-use Rattle.text.proofs.put_text.Kinds as put-text-kinds
-use Rattle.text.proofs.put_text.Reads as put-text
 use Rattle.text.proofs.put_refused.Kinds as put-refused-kinds
 use Rattle.text.proofs.put_refused.Reads as put-refused
 
 pub most-len-settled : Settles 0 most-len-kinds.ps most-len-kinds.r most-len.Learnt
 most-len-settled κs a x y s t p q = settled p q
-
-pub put-text-settled : Settles 2 put-text-kinds.ps put-text-kinds.r put-text.Learnt
-put-text-settled κs a x y s t p q = settled (p .0) (q .0)
-
-pub put-text-settled-target : SettlesBytes 2 put-text-kinds.ps
-    put-text-kinds.r put-text.Learnt (λ κs e. e .1 .0 .now)
-put-text-settled-target κs a x y s t p q = settled (p .1) (q .1)
 
 pub put-refused-settled : Settles 1 put-refused-kinds.ps put-refused-kinds.r put-refused.Learnt
 put-refused-settled κs a x y s t p q = settled (p .0) (q .0)

@@ -25,7 +25,7 @@ fn run(way: Way, w: usize, h: usize, source: &[u8], element: &[u8], target: &mut
         ≡ weightedLeft (onceBy (growsOf way)) w h (now (source .entry)) (now (element .entry))
         (length (now (target .entry))) (now (target .entry)) ⌝ }
 {
-    let read = element::read_weighted(element);
+    let read = reader::read_weighted(element);
     let shape = read.answer;
     let e = read.element;
     let room = target.len();
@@ -64,7 +64,7 @@ fn run_twice(
         ≡ weightedLeft (onceBy (growsOf first)) w h (now (source .entry)) (now (element .entry))
         (min (length (now (target .entry))) (length (now (scratch .entry)))) (now (scratch .entry)) ⌝ }
 {
-    let read = element::read_weighted(element);
+    let read = reader::read_weighted(element);
     let shape = read.answer;
     let e = read.element;
     let room = basics::lesser(target.len(), scratch.len());

@@ -116,7 +116,7 @@ fn work_out(
     let depth = ech::depth_of(kind);
     let n = picture::picture_bytes(depth, w, h);
     operate(op, depth, w, h, &source[..n], e, result, scratch);
-    text::put_text(depth, text, &result[..], w, h, kind)
+    drawing::put_text(depth, text, &result[..], w, h, kind)
 }
 
 // What a refusal prints, and its length.
@@ -171,7 +171,7 @@ pub fn carry_out(
         (now (text .exit)) ⌝ }
 {
     let room = basics::lesser(source.len(), basics::lesser(result.len(), scratch.len()));
-    let read = element::read_element(descriptor);
+    let read = reader::read_element(descriptor);
     let shape = read.answer;
     let e = read.element;
     let no = refusal(shape, file, room, text.len());

@@ -1,0 +1,66 @@
+// Runs the jobs of its input, a line each: checks of chains, of which it prints what they answer,
+// and the finder, of which it prints the picture.
+// tools/cases makes the lines, says what their letters and numbers mean, and makes what must be printed.
+use answer::Answer;
+use libc::STDIN_FILENO;
+use lines::Head;
+use picture::Depth;
+
+// The check of a chain, and what it answers.
+fn checked(line: &[u8], at: usize, k: usize) {
+    let mut element = io::buffer();
+    let mut chain = io::buffer();
+    let e = lines::buffer_at(line, at, &mut element);
+    let c = lines::buffer_at(line, e.next, &mut chain);
+    let a: Answer = chain::check_chain(&element[..e.value], k, &chain[..c.value]);
+    show::answered(a);
+}
+
+// The last picture of a run, in two buffers.
+fn found(head: Head, line: &[u8]) {
+    let depth: Depth = head.depth;
+    let mut first = io::buffer();
+    let mut second = io::buffer();
+    let a = lines::buffer_at(line, head.next, &mut first);
+    let b = lines::buffer_at(line, a.next, &mut second);
+    show::buffer(
+        b"last",
+        finder::last_picture(
+            &first[..a.value],
+            &second[..b.value],
+            depth,
+            head.w,
+            head.h,
+            head.links,
+        ),
+    );
+}
+
+// A label, or a job.
+fn job(letter: u8, line: &[u8]) {
+    if letter == b'#' {
+        show::text(line);
+        return;
+    }
+    let head = lines::head_of(letter, line);
+    if letter == b'f' {
+        found(head, line);
+        return;
+    }
+    checked(line, head.next, head.links);
+}
+
+fn each_line(input: &[u8]) {
+    let mut at = 0;
+    while at < input.len() {
+        let end = lines::line_end(input, at);
+        job(input[at], &input[at..end]);
+        at = end;
+    }
+}
+
+fn main() {
+    let mut input = io::large_buffer();
+    let n = io::read_full(STDIN_FILENO, &mut input);
+    each_line(&input[..n]);
+}

@@ -1,0 +1,25 @@
+-- Any two outcomes that a contract allows of one call are the same:
+-- for each public function, of its contract itself, as the prover reads it.
+use Rattle.answer.proofs.OneToOne.{same-answer}
+use Rattle.basics.specs.Settles.{Settles}
+use Rattle.basics.proofs.Settled.{settled}
+use Rattle.reader.proofs.read_element.Kinds as read-element-kinds
+use Rattle.reader.proofs.read_element.Reads as read-element
+use Rattle.reader.proofs.read_weighted.Kinds as read-weighted-kinds
+use Rattle.reader.proofs.read_weighted.Reads as read-weighted
+
+pub read-element-settled : Settles 1 read-element-kinds.ps read-element-kinds.r read-element.Learnt
+read-element-settled κs a x y s t p q =
+    λ i.
+    record {
+      answer = same-answer (x .answer) (y .answer) _ (p .0) (q .0) i;
+      element = settled (p .1) (q .1) i;
+    }
+
+pub read-weighted-settled : Settles 1 read-weighted-kinds.ps read-weighted-kinds.r read-weighted.Learnt
+read-weighted-settled κs a x y s t p q =
+    λ i.
+    record {
+      answer = same-answer (x .answer) (y .answer) _ (p .0) (q .0) i;
+      element = settled (p .1) (q .1) i;
+    }
