@@ -170,6 +170,14 @@ uint32_t qik_reconstruct_cross(uint64_t w, uint64_t h, const uint8_t *marker, si
 uint32_t qik_reconstruct_square(uint64_t w, uint64_t h, const uint8_t *marker, size_t marker_len, const uint8_t *mask, size_t mask_len,
                                 uint8_t *target, size_t target_len);
 
+/* The size spectrum of a one-bit picture: how much of it is in small marks. counts[k - 1] is how many points survive opening by the square of side k, its origin at its upper
+ * left cell, and not by side k + 1; counts[31] is how many survive side 32. A mark cut by the frame is judged by the frame rule: at the right and lower edge it counts as large.
+ * The 32 counts sum to the picture's set points. source: a one-bit picture, exactly; what stands in its padding is ignored. counts: room for 32; further ones stay.
+ * scratch: room for two pictures, which are left all 0; further bytes stay.
+ * Answer: SIZE, SOURCE, ROOM (counts or scratch too short) in this order, or DONE with the counts in counts. */
+uint32_t qik_size_spectrum(uint64_t w, uint64_t h, const uint8_t *source, size_t source_len, uint32_t *counts, size_t counts_len,
+                           uint8_t *scratch, size_t scratch_len);
+
 /* Weighted erosion of an 8-bit picture: the least of source at point + offset, less the offset's height, over the offsets that stay in the
  * frame, held to 0..255; 255 where there is none. A value of 255 contributes 255, whatever the height.
  * source: an 8-bit picture, exactly. element: a weighted descriptor. target: room for the picture.

@@ -22,3 +22,4 @@ pub mod Grow
 pub mod Reconstruct
 pub mod Book
 pub mod Again
+pub mod Spectrum

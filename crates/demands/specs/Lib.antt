@@ -19,3 +19,4 @@ pub mod Grows
 pub mod BookCalls
 pub mod Books
 pub mod Again
+pub mod SizeCalls

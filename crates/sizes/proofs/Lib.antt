@@ -1,0 +1,4 @@
+pub mod Near
+pub mod Squares
+pub mod Counts
+pub mod Worked

@@ -1,0 +1,1 @@
+// Definitions and laws of the size spectrum: no code.

@@ -1,0 +1,2 @@
+-- What the work stands on: a row, and a picture.
+pub mod Fits
