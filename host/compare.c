@@ -58,7 +58,7 @@ static const struct function {
     plain_call *plain;
     middle_call *middle;
     chain_call *chain;
-    const char *numbers; /* those that it can give: digits, ; for 11, < for 12, ? for 15 */
+    const char *numbers; /* those that it can give: digits, ; for 11, < for 12, ? for 15, @ for 16 */
 } functions[] = {
     {"erode1", FLAT, 1, 'e', qik_erode1, 0, 0, "01248"},
     {"dilate1", FLAT, 1, 'd', qik_dilate1, 0, 0, "01248"},

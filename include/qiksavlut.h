@@ -43,6 +43,7 @@ enum qik_refusal {
     QIK_FULL = 13,   /* no room in the element book for a descriptor beside those that stay */
     QIK_ABSENT = 14, /* the element book holds nothing under this number, or has no such number */
     QIK_RETIRED = 15, /* kind 3 of a file that is to be written: it is no longer made */
+    QIK_NEST = 16,   /* a picture of more than 16,384 points or 255 regions, the outer one counted: its nesting is not listed */
     QIK_BOOK = 17    /* the lent bytes are no element book, or are damaged */
 };
 
@@ -77,6 +78,12 @@ static inline uint32_t qik_get_place(uint64_t answer) { return (uint32_t)(answer
 
 /* The descriptor's length; 0 of a refusal. */
 static inline uint32_t qik_get_length(uint64_t answer) { return (uint32_t)(answer >> 32 & 65535u); }
+
+/* The number of the answer of a nesting. */
+static inline uint32_t qik_nest_number(uint64_t answer) { return (uint32_t)(answer & 255u); }
+
+/* The regions of the picture, the outer one counted; 0 of a refusal. */
+static inline uint32_t qik_nest_regions(uint64_t answer) { return (uint32_t)(answer >> 16 & 65535u); }
 
 /* One-bit erosion: a point of target is set when source is set at point + offset for every offset that stays in the frame.
  * source: a one-bit picture, exactly. element: a descriptor, not weighted. target: room for the picture.
@@ -232,6 +239,16 @@ uint32_t qik_chain_erode8(uint64_t w, uint64_t h, const uint8_t *source, size_t 
 uint32_t qik_chain_dilate8(uint64_t w, uint64_t h, const uint8_t *source, size_t source_len, const uint8_t *element, size_t element_len,
                            uint64_t links, const uint8_t *chain, size_t chain_len, uint8_t *first, size_t first_len, uint8_t *second,
                            size_t second_len);
+
+/* Which echo lies inside which: the regions of a one-bit picture. Echoes are joined by their 8 neighbours, background by 4, and all background at the frame's edge is
+ * one outer region, with what lies beyond. A region lies in the one left of its first point in row order, at the left edge in the outer one. The listing goes from
+ * the outer region, which comes first even where it has no points, to the echoes in it, from an echo to its holes, and so on, by first point, each with all that is
+ * inside it before the next. source: a one-bit picture, exactly. list: two numbers for each region, list[2 * i] its depth, 0 for the outer one, and list[2 * i + 1]
+ * its points, which sum to w * h; list_len counts numbers, an odd last one is no place, and further ones stay. 510 are enough for any picture that is listed.
+ * Answer: SIZE, SOURCE, NEST, ROOM in this order, or DONE with the listing. It is packed, number + 65536 * regions, and the plain number where it is refused:
+ * qik_nest_number and qik_nest_regions take it apart. The labels of the points stand on the stack, 32 KB: the call takes at most 82,480 bytes of it
+ * on x86-64 and 78,384 on aarch64, of which 192 and 176 go to each of 255 regions that could lie one in another. */
+uint64_t qik_nesting(uint64_t w, uint64_t h, const uint8_t *source, size_t source_len, uint32_t *list, size_t list_len);
 
 /* Reads an ECH file, version 1. file: the whole file. target: room for its picture.
  * Answer: FORM, SIZE, SOURCE (the body's length), PAD, ROOM in this order, or DONE with the picture in target. It is packed, number + 256 * kind

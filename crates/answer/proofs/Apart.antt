@@ -10,7 +10,7 @@ use lib.IntN.{ℤ, pos, negsuc, subℕ}
 use Rattle.answer.specs.declared.Answer.{Answer}
 use Rattle.answer.specs.declared.Answer.the-variants.{Done, Size, Source, Pad, Shape}
 use Rattle.answer.specs.declared.Answer.the-variants.{Overlap, Chain, Split, Room, Form, Job, Netpbm}
-use Rattle.answer.specs.declared.Answer.the-variants.{Marker, Full, Absent, Retired, Book}
+use Rattle.answer.specs.declared.Answer.the-variants.{Marker, Full, Absent, Retired, Nest, Book}
 use Rattle.answer.specs.declared.Told.{Told}
 use Rattle.answer.specs.Answer.{told, plain, centre}
 use Rattle.answer.specs.Packed.{modByte, packed}
@@ -91,4 +91,5 @@ taken-apart Marker bytes = plain-apart 12 (lit< tt)
 taken-apart Full bytes = plain-apart 13 (lit< tt)
 taken-apart Absent bytes = plain-apart 14 (lit< tt)
 taken-apart Retired bytes = plain-apart 15 (lit< tt)
+taken-apart Nest bytes = plain-apart 16 (lit< tt)
 taken-apart Book bytes = plain-apart 17 (lit< tt)

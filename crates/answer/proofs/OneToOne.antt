@@ -9,7 +9,7 @@ use lib.IntN.{ℤ, pos, negsuc, subℕ}
 use Rattle.answer.specs.declared.Answer.{Answer}
 use Rattle.answer.specs.declared.Answer.the-variants.{Done, Size, Source, Pad, Shape}
 use Rattle.answer.specs.declared.Answer.the-variants.{Overlap, Chain, Split, Room, Form, Job, Netpbm}
-use Rattle.answer.specs.declared.Answer.the-variants.{Marker, Full, Absent, Retired, Book}
+use Rattle.answer.specs.declared.Answer.the-variants.{Marker, Full, Absent, Retired, Nest, Book}
 use Rattle.answer.specs.declared.Told.{Told}
 use Rattle.answer.specs.Answer.{told, plain, centre}
 
@@ -44,7 +44,8 @@ answerOf t =
     (cond (eqb (t .number) 13) Full
     (cond (eqb (t .number) 14) Absent
     (cond (eqb (t .number) 15) Retired
-    Book)))))))))))))))
+    (cond (eqb (t .number) 16) Nest
+    Book))))))))))))))))
 
 answer-back : (a : Answer) → answerOf (told a) ≡ a
 unfolding told plain
@@ -64,6 +65,7 @@ answer-back Marker = refl
 answer-back Full = refl
 answer-back Absent = refl
 answer-back Retired = refl
+answer-back Nest = refl
 answer-back Book = refl
 
 pub told-one-to-one : (a b : Answer) → told a ≡ told b → a ≡ b

@@ -6,7 +6,7 @@ use lib.IntN.{pos, subℕ}
 use Rattle.answer.specs.declared.Answer.{Answer}
 use Rattle.answer.specs.declared.Answer.the-variants.{Done, Size, Source, Pad, Shape}
 use Rattle.answer.specs.declared.Answer.the-variants.{Overlap, Chain, Split, Room, Form, Job, Netpbm}
-use Rattle.answer.specs.declared.Answer.the-variants.{Marker, Full, Absent, Retired, Book}
+use Rattle.answer.specs.declared.Answer.the-variants.{Marker, Full, Absent, Retired, Nest, Book}
 use Rattle.answer.specs.declared.Told.{Told}
 
 -- a coordinate d of an offset is held as the byte d + centre, so that no number is negative
@@ -34,6 +34,7 @@ told Marker = plain 12
 told Full = plain 13
 told Absent = plain 14
 told Retired = plain 15
+told Nest = plain 16
 told Book = plain 17
 
 -- 0 means done

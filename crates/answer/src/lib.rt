@@ -26,6 +26,7 @@ pub enum Answer {
     Full,
     Absent,
     Retired,
+    Nest,
     Book,
 }
 
@@ -70,6 +71,7 @@ fn number_of(a: Answer) -> u32
         Answer::Full => 13,
         Answer::Absent => 14,
         Answer::Retired => 15,
+        Answer::Nest => 16,
         Answer::Book => 17,
     }
 }

@@ -23,3 +23,4 @@ pub mod Reconstruct
 pub mod Book
 pub mod Again
 pub mod Spectrum
+pub mod Nesting

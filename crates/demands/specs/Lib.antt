@@ -20,3 +20,5 @@ pub mod BookCalls
 pub mod Books
 pub mod Again
 pub mod SizeCalls
+pub mod NestCalls
+pub mod Nests

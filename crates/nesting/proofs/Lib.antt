@@ -1,0 +1,5 @@
+pub mod Stores
+pub mod Children
+pub mod Refused
+pub mod Whole
+pub mod Settled

@@ -1,0 +1,13 @@
+pub mod Cases
+pub mod Roots
+pub mod Join
+pub mod Mates
+pub mod Labels
+pub mod Counts
+pub mod Walks
+pub mod Firsts
+pub mod Sums
+pub mod Once
+pub mod Parents
+pub mod Theorems
+pub mod Differ
