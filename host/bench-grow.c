@@ -117,7 +117,7 @@ static long points(const uint8_t *a) {
 
 int main(void) {
     int bad = 0;
-    printf("Markers grown inside masks of %d x %d points. Milliseconds, processor time, the best run in 0.2 s; in brackets, times the library's time. The library and the\n", W, H);
+    printf("Markers grown inside masks of %d x %d points. Milliseconds, processor time, the best run in 0.1 s; in brackets, times the library's time. The library and the\n", W, H);
     printf("independent flood fill judge their input in that time, Leptonica trusts it. !: Leptonica gave up before the end, and so many points are missing.\n\n");
     printf("%-7s %-12s %7s %7s %10s %19s", "by the", "mask", "points", "grown", "library", "flood fill");
 #ifdef WITH_LEPTONICA

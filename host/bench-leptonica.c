@@ -6,6 +6,7 @@
 
 static PIX *from, *to, *middle;
 static SEL *sel;
+static int wide, high, full; /* the element's box, and whether all its cells are set */
 
 static PIX *pix_of(int w, int h, const uint8_t *picture) {
     PIX *a = pixCreate(w, h, 1);
@@ -17,6 +18,7 @@ static PIX *pix_of(int w, int h, const uint8_t *picture) {
 
 void leptonica_prepare(int w, int h, const uint8_t *source, const uint8_t *element) {
     resetMorphBoundaryCondition(SYMMETRIC_MORPH_BC);
+    setMsgSeverity(L_SEVERITY_NONE); /* it says of each size that is not compiled that it takes two that are */
     pixDestroy(&from);
     pixDestroy(&to);
     pixDestroy(&middle);
@@ -24,14 +26,18 @@ void leptonica_prepare(int w, int h, const uint8_t *source, const uint8_t *eleme
     from = pix_of(w, h, source), to = pixCreate(w, h, 1), middle = pixCreate(w, h, 1);
     sel = selCreate(element[1], element[0], "element");
     selSetOrigin(sel, element[3], element[2]);
-    for (int r = 0; r < element[1]; r++)
-        for (int c = 0; c < element[0]; c++)
-            if (element[4 + r * ((element[0] + 7) / 8) + c / 8] >> (7 - c % 8) & 1) selSetElement(sel, r, c, SEL_HIT);
+    wide = element[0], high = element[1], full = 1;
+    for (int r = 0; r < high; r++)
+        for (int c = 0; c < wide; c++)
+            if (element[4 + r * ((wide + 7) / 8) + c / 8] >> (7 - c % 8) & 1) selSetElement(sel, r, c, SEL_HIT);
+            else full = 0;
 }
 
 void leptonica_run(char way) {
     if (way == 'e') pixErode(to, from, sel);
+    else if (way == 'd') pixDilate(to, from, sel);
     else if (way == 'b') pixClose(to, from, sel);
+    else if (way == 'c') pixClose(to, from, sel);
     else if (way == 'g') pixDilate(to, from, sel);
     else pixOpen(to, from, sel);
     if (way == 'w') pixSubtract(to, from, to);
@@ -40,6 +46,17 @@ void leptonica_run(char way) {
         pixErode(middle, from, sel);
         pixSubtract(to, to, middle);
     }
+}
+
+/* its bricks are whole rectangles about their middle; each gives nothing where it does not know the size */
+static int by(PIX *run(PIX *, PIX *, l_int32, l_int32)) { return full && run(to, from, wide, high) != 0; }
+
+int leptonica_brick(char way) {
+    return way == 'e' ? by(pixErodeBrick) : way == 'd' ? by(pixDilateBrick) : way == 'o' ? by(pixOpenBrick) : way == 'c' ? by(pixCloseBrick) : 0;
+}
+
+int leptonica_dwa(char way) {
+    return way == 'e' ? by(pixErodeBrickDwa) : way == 'd' ? by(pixDilateBrickDwa) : way == 'o' ? by(pixOpenBrickDwa) : way == 'c' ? by(pixCloseBrickDwa) : 0;
 }
 
 void leptonica_result(uint8_t *target) {

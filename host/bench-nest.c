@@ -68,7 +68,7 @@ int main(void) {
         void (*make)(void);
     } pictures[] = {{"spiral", spiral}, {"rings", rings}, {"lone points", lone}, {"full", full}, {"checkerboard", checkerboard}, {"random blocks", random_blocks}};
     int bad = 0;
-    printf("The nesting of regions of %d x %d points. Milliseconds, processor time, the best run in 0.2 s; in brackets, times the library's time.\n\n", N, N);
+    printf("The nesting of regions of %d x %d points. Milliseconds, processor time, the best run in 0.1 s; in brackets, times the library's time.\n\n", N, N);
     printf("%-14s%8s%8s%11s%20s\n", "picture", "answer", "regions", "library", "flood fill");
     for (int i = 0; i < 6; i++) {
         memset(source, 0, BYTES);

@@ -20,10 +20,14 @@ extern "C" void opencv_prepare(int w, int h, const uint8_t *source, const uint8_
 }
 
 extern "C" void opencv_run(char way) {
-    if (way == 'b') {
+    if (way == 'd') {
+        cv::dilate(from, to, about, turned);
+        return;
+    }
+    if (way == 'b' || way == 'c') {
         cv::dilate(from, middle, about, turned);
         cv::erode(middle, to, kernel, anchor);
-        cv::subtract(to, from, to);
+        if (way == 'b') cv::subtract(to, from, to);
         return;
     }
     cv::erode(from, way == 'e' ? to : middle, kernel, anchor);

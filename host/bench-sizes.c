@@ -28,7 +28,7 @@ static void some_squares(void) {
 int main(void) {
     static const char *const names[] = {"squares", "noise", "full", "empty"};
     int good = 1;
-    printf("The size spectrum of %d x %d points, beside the one-bit opening by 3 x 3. Milliseconds, processor time, the best run in 0.2 s.\n", W, H);
+    printf("The size spectrum of %d x %d points, beside the one-bit opening by 3 x 3. Milliseconds, processor time, the best run in 0.1 s.\n", W, H);
     printf("%-8s %12s %12s %10s\n", "picture", "open 3 x 3", "spectrum", "times");
     for (int i = 0; i < 4; i++) {
         if (i == 0) some_squares();

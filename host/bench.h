@@ -1,5 +1,5 @@
-/* What the benchmark asks of a library that may be there: prepare makes its own picture and element, which is not measured; run is the operation, 'e', 'o',
- * 'w', 'b' or 'g'; result gives the picture back in our form. */
+/* What the benchmark asks of a library that may be there: prepare makes its own picture and element, which is not measured; run is the operation, 'e', 'd',
+ * 'o', 'c', 'w', 'b' or 'g'; result gives the picture back in our form. */
 #ifndef BENCH_H
 #define BENCH_H
 
@@ -15,6 +15,9 @@ void opencv_result(uint8_t *target);
 
 void leptonica_prepare(int w, int h, const uint8_t *source, const uint8_t *element);
 void leptonica_run(char way);
+/* the same by its bricks, and by those that it has compiled; 0 where the element is no rectangle, or not one of those */
+int leptonica_brick(char way);
+int leptonica_dwa(char way);
 void leptonica_result(uint8_t *target);
 
 /* the same of a marker and a mask, grown by the four or, aslant, by the eight neighbours */
