@@ -3,8 +3,8 @@
 use Prim.Native.Nat.{_≤_, _-_}
 use lib.ListN.{length}
 use borrow.Author.Needs.{needs}
-use Rattle.nestcases.proofs.each_line.Statement.{statement}
-use Rattle.nestcases.proofs.each_line.Tie as tie
+use Rattle.listcases.proofs.each_line.Statement.{statement}
+use Rattle.listcases.proofs.each_line.Tie as tie
 
 abbrev Inv-loop : tie.InvT-loop
 Inv-loop input at₀ at = at ≤ length input

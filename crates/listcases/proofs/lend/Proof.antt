@@ -3,8 +3,8 @@
 use native.Mathlib.Omega.{arith}
 use borrow.Author.Needs.{needs}
 use lib.ListN.{length-take}
-use Rattle.nestcases.proofs.lend.Statement.{statement}
-use Rattle.nestcases.proofs.lend.Tie as tie
+use Rattle.listcases.proofs.lend.Statement.{statement}
+use Rattle.listcases.proofs.lend.Tie as tie
 
 slice-aggregate-run : tie.Need-slice-aggregate-run
 slice-aggregate-run c =

@@ -3,8 +3,8 @@
 use Prim.Native.Nat.{_≤_, _<_, _-_}
 use lib.ListN.{length}
 use borrow.Author.Needs.{needs}
-use Rattle.nestcases.proofs.numbers.Statement.{statement}
-use Rattle.nestcases.proofs.numbers.Tie as tie
+use Rattle.listcases.proofs.numbers.Statement.{statement}
+use Rattle.listcases.proofs.numbers.Tie as tie
 
 abbrev Inv-loop : tie.InvT-loop
 Inv-loop list from₀ i₀ t5 from i = (from ≤ i) × (i ≤ length list) × (i < length list → from < length list)

@@ -1,5 +1,5 @@
-// Runs the jobs of its input, a line each, and prints of each what it answers, how many regions there are,
-// and every number of the list: which echo lies inside which.
+// Runs the jobs of its input, a line each, whose result is a list of numbers: the size spectrum, and which echo
+// lies inside which. It prints of each what it answers, and every number of the list.
 // tools/cases makes the lines, says what their letters and numbers mean, and makes what must be printed.
 use answer::Answer;
 use libc::STDIN_FILENO;
@@ -63,6 +63,27 @@ fn lend(w: usize, h: usize, source: &[u8], list: &mut [u32], n: usize) {
     }
 }
 
+// The call of the size spectrum, and what came of it.
+fn run_sizes(w: usize, h: usize, source: &[u8], counts: &mut [u32], scratch: &mut [u8]) {
+    let said: Answer = spectrum::spectrum(w, h, source, counts, scratch);
+    show::answered(said);
+    numbers(&counts[..]);
+    show::buffer(b"scratch", &scratch[..]);
+}
+
+fn lend_counts(w: usize, h: usize, source: &[u8], list: &mut [u32], n: usize, scratch: &mut [u8]) {
+    if n <= list.len() {
+        run_sizes(w, h, source, &mut list[..n], scratch);
+    }
+}
+
+fn sizes_job(w: usize, h: usize, source: &[u8], n: usize, line: &[u8], at: usize) {
+    let mut scratch = io::large_buffer();
+    let s = lines::buffer_at(line, at, &mut scratch);
+    let mut list = [7u32; 520];
+    lend_counts(w, h, source, &mut list, n, &mut scratch[..s.value]);
+}
+
 // A label, or a job and the list that it lends, full of sevens.
 fn job(letter: u8, line: &[u8]) {
     if letter == b'#' {
@@ -72,6 +93,10 @@ fn job(letter: u8, line: &[u8]) {
     let head = lines::head_of(letter, line);
     let mut source = io::large_buffer();
     let s = lines::buffer_at(line, head.next, &mut source);
+    if letter == b's' {
+        sizes_job(head.w, head.h, &source[..s.value], head.links, line, s.next);
+        return;
+    }
     let mut list = [7u32; 520];
     lend(head.w, head.h, &source[..s.value], &mut list, head.links);
 }
