@@ -19,6 +19,7 @@ ghost use Rattle.bitrow.specs.Steps.Row.{sweptBits};
 ghost use Rattle.byterow.specs.Steps.Row.{sweptBytes};
 ghost use Rattle.rows.specs.Steps.Ways.{growsOf};
 ghost use Rattle.apply.specs.Steps.Applied.{Fitting, flatBy, flatTwiceBy, weightedBy, weightedTwiceBy};
+ghost use Rattle.apply.specs.Steps.Flat.{flatOf};
 
 // The whole one-bit picture, row by row; what lies past it in t stays.
 fn sweep_bits(k: Task, s: &[u8], t: &mut [u8], w: usize, h: usize, o: Outline, words: &[RowWord])
@@ -77,6 +78,34 @@ fn sweep_bytes(
     }
 }
 
+// The same by a flat element: a rectangle goes its own way.
+fn flat_bytes(
+    grows: bool,
+    s: &[u8],
+    t: &mut [u8],
+    w: usize,
+    h: usize,
+    o: Outline,
+    words: &[RowWord],
+)
+    requires { ⌜ Ready Depth.EightBit (length (now s)) (length (now words)) w h o ⌝ }
+    requires { ⌜ Holds Depth.EightBit (length (now t)) w h ⌝ }
+    ensures { λ _. ⌜
+        now (t .exit)
+        ≡ written Depth.EightBit (flatOf grows Depth.EightBit (now (s .entry)) w h o (now (words .entry)))
+        w h (now (t .entry)) ⌝ }
+{
+    // a single cell is a copy
+    if 2 < o.w + o.h {
+        if boxes::is_box(words, o) {
+            rectangle::bytes(grows, s, t, w, h, o);
+            return;
+        }
+    }
+    let none = &s[..0];
+    sweep_bytes(grows, s, t, w, h, o, words, none);
+}
+
 fn other(way: Way) -> Way
     ensures { λ r. ⌜ growsOf r ≡ not (growsOf way) ⌝ }
 {
@@ -113,8 +142,7 @@ pub fn flat(
             sweep_bits(k, source, target, w, h, e.outline, &words);
         }
         Depth::EightBit => {
-            let none = &source[..0];
-            sweep_bytes(grows, source, target, w, h, e.outline, &words, none);
+            flat_bytes(grows, source, target, w, h, e.outline, &words);
         }
     }
 }

@@ -1,47 +1,42 @@
--- By the depth: the rows of a one-bit picture, or those of bytes with no bytes of heights.
--- What either promises of the element's own row words is the flat operation: `flat-bits`, `flat-bytes`.
-use Rattle.apply.proofs.Applied.{ready, holds-at, flat-bits, flat-bytes}
+-- By the depth, each with its own way.
+-- What either promises of the element's own outline and row words is the flat operation: `flat-found`.
+use Rattle.apply.proofs.Applied.{ready, holds-at, flat-found, rows-of-bits}
 use Rattle.picture.specs.declared.Depth.the-variants.{OneBit, EightBit}
-use mathlib.Core.Path.{sym}
-use native.Mathlib.Omega.{arith}
 use borrow.Author.Needs.{needs}
 use Rattle.apply.proofs.flat.Statement.{statement}
 use Rattle.apply.proofs.flat.Tie as tie
 
 sweep-bits-requires : tie.Need-sweep-bits-requires
-sweep-bits-requires c κs =
-    let e = c .before .before .before .before .before .before .before .before in
+sweep-bits-requires c κs = let e = c .before .before .before .before .before .before .before .before in
     let q = c .before .before .enum-told .given .1 in (
       ready OneBit _ (e .args .w) (e .args .h) (e .args .e) (holds-at _ _ _ _ _ q (e .pre .0)) (e .pre .1 .1),
       holds-at _ _ _ _ _ q (e .pre .1 .0),
     )
 
-sweep-bytes-requires : tie.Need-sweep-bytes-requires
-sweep-bytes-requires c κs =
-    let e = c .before .before .before .before .before .before .before .before .before in
-    let q = c .before .before .before .enum-told2 .given .1 in (
-      ready EightBit _ (e .args .w) (e .args .h) (e .args .e)
-          (holds-at _ _ _ _ _ q (e .pre .0)) (e .pre .1 .1),
+flat-bytes-requires : tie.Need-flat-bytes-requires
+flat-bytes-requires c κs = let e = c .before .before .before .before .before .before .before .before in
+    let q = c .before .before .enum-told2 .given .1 in (
+      ready EightBit _ (e .args .w) (e .args .h) (e .args .e) (holds-at _ _ _ _ _ q (e .pre .0)) (e .pre .1
+          .1),
       holds-at _ _ _ _ _ q (e .pre .1 .0),
     )
 
 returns : tie.Need-returns
-returns c =
-    let a = c .before .before .before .before .before .before .before .before .before .before .before .args in
-    flat-bits (a .w) (a .h) (a .e) (a .source .now) (a .target .now) _ _ _
-    (c .before .before .before .before .before .before .before .is-growing .ensures) (a .depth)
-    (c .before .before .before .before .before .enum-told .given .1) (c .before .before .sweep-bits .ensures)
+returns c = let a = c .before .before .before .before .before .before .before .before .before .before
+    .before .args in
+    flat-found (a .w) (a .h) (a .e) (a .source .now) (a .target .now) _ _ _ (c .before .before .before
+    .before .before .before .before .is-growing .ensures) (a .depth)
+    OneBit (c .before .before .before .before .before .enum-told .given .1) (rows-of-bits (a .w) (a .h)
+    (a .e .outline) (a .e .rows) (a .source .now) (a .target .now) _ _
+    (c .before .before .sweep-bits .ensures))
 
 returns-2 : tie.Need-returns-2
-returns-2 c =
-    let a =
-    c .before .before .before .before .before .before .before .before .before .before .before .before .args in
-    flat-bytes (a .w) (a .h) (a .e) (a .source .now) (a .target .now) _ _ _
-    (c .before .before .before .before .before .before .before .before .is-growing .ensures) (a .depth)
-    (c .before .before .before .before .before .before .enum-told2 .given .1)
-    (λ i. let l = c .before .before .before .before .before .before .before
-    .before .before .before .before .shared-slice-known .given i in omega arith)
-    (c .before .before .sweep-bytes .ensures)
+returns-2 c = let a = c .before .before .before .before .before .before .before .before .before .before
+    .before .args in
+    flat-found (a .w) (a .h) (a .e) (a .source .now) (a .target .now) _ _ _ (c .before .before .before
+    .before .before .before .before .is-growing .ensures) (a .depth)
+    EightBit (c .before .before .before .before .before .enum-told2 .given .1) (c .before .before
+    .flat-bytes .ensures)
 
 pub flat-spec : {M : Type 1} → statement M
 flat-spec =
@@ -49,12 +44,11 @@ flat-spec =
     (tie.spec
     (λ c κs. search needs)
     (λ c. search needs)
-    (λ c. sym (c .before .before .before .before .before .before .before .before .pre .1 .1 .words))
+    (λ c. search needs)
     sweep-bits-requires
     (λ c. search needs)
     (λ c. search needs)
-    (λ c. sym (c .before .before .before .before .before .before .before .before .before .pre .1 .1 .words))
-    sweep-bytes-requires
+    flat-bytes-requires
     (λ c. search needs)
     returns
     (λ c. search needs)

@@ -1,0 +1,2 @@
+-- How the work goes: rows joined down the columns.
+pub mod Down

@@ -1,0 +1,2 @@
+-- How the work goes: bytes joined at either depth.
+pub mod Joins
