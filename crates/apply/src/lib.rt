@@ -9,17 +9,22 @@ use picture::Depth;
 use rows::Way;
 ghost use mathlib.Core.Path.{_≡_};
 ghost use mathlib.Core.Bool.{not};
+ghost use Prim.Native.Nat.{_*_, _≤_};
 ghost use lib.ListN.{length};
 ghost use Rattle.picture.specs.declared.Depth.the-variants.{EightBit};
 ghost use Rattle.picture.specs.Frame.{Holds};
 ghost use Rattle.picture.specs.Points.{valueAt};
 ghost use Rattle.picture.specs.Bytes.{written};
+ghost use Rattle.element.specs.Descriptor.{mostCells};
 ghost use Rattle.rows.specs.Steps.Ready.{Ready};
 ghost use Rattle.bitrow.specs.Steps.Row.{sweptBits};
 ghost use Rattle.byterow.specs.Steps.Row.{sweptBytes};
 ghost use Rattle.rows.specs.Steps.Ways.{growsOf};
 ghost use Rattle.apply.specs.Steps.Applied.{Fitting, flatBy, flatTwiceBy, weightedBy, weightedTwiceBy};
 ghost use Rattle.apply.specs.Steps.Flat.{flatOf};
+
+// Up to so many cells a flat element's rows are joined cell by cell.
+const FEW: usize = 16;
 
 // The whole one-bit picture, row by row; what lies past it in t stays.
 fn sweep_bits(k: Task, s: &[u8], t: &mut [u8], w: usize, h: usize, o: Outline, words: &[RowWord])
@@ -78,6 +83,46 @@ fn sweep_bytes(
     }
 }
 
+// How many cells are set in the first h row words.
+fn cells_in(words: &[RowWord], h: usize) -> usize
+    requires { ⌜ (h ≤ length (now words)) × (h ≤ mostCells) ⌝ }
+    ensures { λ r. ⌜ r ≤ mostCells * mostCells ⌝ }
+{
+    let mut n = 0;
+    let mut r = 0;
+    while r < h {
+        n += packedline::cell_count(words[r]);
+        r += 1;
+    }
+    n
+}
+
+// The same by a flat element. A few cells are soonest joined cell by cell, into one row of the result after
+// another; where they are many, the windows of a source row are made once for all the rows that see it.
+fn sweep_flat(
+    grows: bool,
+    s: &[u8],
+    t: &mut [u8],
+    w: usize,
+    h: usize,
+    o: Outline,
+    words: &[RowWord],
+)
+    requires { ⌜ Ready Depth.EightBit (length (now s)) (length (now words)) w h o ⌝ }
+    requires { ⌜ Holds Depth.EightBit (length (now t)) w h ⌝ }
+    ensures { λ _. ⌜
+        now (t .exit)
+        ≡ written Depth.EightBit (flatOf grows Depth.EightBit (now (s .entry)) w h o (now (words .entry)))
+        w h (now (t .entry)) ⌝ }
+{
+    if cells_in(words, o.h) <= FEW {
+        let none = &s[..0];
+        sweep_bytes(grows, s, t, w, h, o, words, none);
+        return;
+    }
+    bysource::sweep(grows, s, t, w, h, o, words);
+}
+
 // The same by a flat element: a rectangle goes its own way.
 fn flat_bytes(
     grows: bool,
@@ -102,8 +147,7 @@ fn flat_bytes(
             return;
         }
     }
-    let none = &s[..0];
-    sweep_bytes(grows, s, t, w, h, o, words, none);
+    sweep_flat(grows, s, t, w, h, o, words);
 }
 
 fn other(way: Way) -> Way

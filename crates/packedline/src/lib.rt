@@ -30,7 +30,7 @@ fn faced(over: bool, v: u8) -> u8
 }
 
 // The bytes of s, as they are or turned over, laid over those of b from the place `at` on.
-fn copy_over(over: bool, b: &mut [u8], at: usize, s: &[u8])
+pub fn copy_over(over: bool, b: &mut [u8], at: usize, s: &[u8])
     requires { ⌜ at + length (now s) ≤ length (now b) ⌝ }
     ensures { λ _. ⌜ now (b .exit) ≡ laid at (length (now (s .entry)))
         (λ i. facedByte over (getD (now (s .entry)) i 0)) (now (b .entry)) ⌝ }
@@ -69,7 +69,7 @@ pub fn blot(grows: bool, b: &mut [u8], at: usize, w: usize)
 // ---- which windows make up a row of an element
 
 // Where the cell of column c falls, seen from place 0.
-fn cell_place(grows: bool, o: usize, c: usize) -> usize
+pub fn cell_place(grows: bool, o: usize, c: usize) -> usize
     requires { ⌜ (o < 64) × (c < 64) ⌝ }
     ensures { λ r. ⌜ (r ≡ placeOf grows o c) × (r < 128) ⌝ }
 {
@@ -115,7 +115,7 @@ fn run_places(at: &mut [u8], n: usize, wide: usize, from: usize) -> usize
 }
 
 // A cell's bit in a row word.
-fn cell_bit(c: usize) -> u64
+pub fn cell_bit(c: usize) -> u64
     requires { ⌜ c < 64 ⌝ }
     ensures { λ r. ⌜ r ≡ 2 ^ (63 - c) ⌝ }
 {
@@ -123,7 +123,7 @@ fn cell_bit(c: usize) -> u64
 }
 
 // The column of the first set cell.
-fn first_cell(word: u64) -> usize
+pub fn first_cell(word: u64) -> usize
     requires { ⌜ 0 < word ⌝ }
     ensures { λ r. ⌜ (r < 64)
         × ((2 ^ (63 - r) ≤ word) × ((word < 2 ^ (64 - r)) × (r ≡ leadingZeros 64 word))) ⌝ }
@@ -148,14 +148,14 @@ fn cell_places(at: &mut [u8], grows: bool, word: u64, o: usize) -> usize
 }
 
 // How many cells are set.
-fn cell_count(word: u64) -> usize
+pub fn cell_count(word: u64) -> usize
     ensures { λ r. ⌜ (r ≡ ones word) × (r ≤ 64) ⌝ }
 {
     u64::count_ones(word) as usize
 }
 
 // The windows that a row word wants: a run's, or 1 for single cells; 0 where there is no cell.
-fn level_of(word: u64) -> usize
+pub fn level_of(word: u64) -> usize
     ensures { λ r. ⌜ r ≡ levelOf word ⌝ }
 {
     if word == 0 {
@@ -170,7 +170,7 @@ fn level_of(word: u64) -> usize
 }
 
 // The cell that falls on the first place of a run: its first, or for dilation its last.
-fn end_cell(grows: bool, c: usize, wide: usize) -> usize
+pub fn end_cell(grows: bool, c: usize, wide: usize) -> usize
     requires { ⌜ (0 < wide) × (c + wide ≤ 64) ⌝ }
     ensures { λ r. ⌜ (r ≡ endCell grows c wide) × (r < 64) ⌝ }
 {

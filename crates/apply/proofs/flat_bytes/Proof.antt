@@ -18,13 +18,6 @@ returns c = let s = c .before .before .before .before .before .before .before .b
     (sym (c .before .before .before .before .before .is-box .ensures) ∙ c .before .before .before .before
     .if2 .taken) (c .before .before .bytes .ensures)
 
-returns-2 : tie.Need-returns-2
-returns-2 c = let a = c .before .before .before .before .before .before .before .before .before .before
-    .args in
-    rows-of-bytes (a .w) (a .h) (a .o) (a .words .now) (a .s .now) (a .t .now) _ (a .grows)
-    (λ i. let l = c .before .before .before .before .before .before .before .before .before
-    .shared-slice-known .given i in omega arith) (c .before .before .sweep-bytes .ensures)
-
 pub flat-bytes-spec : {M : Type 1} → statement M
 flat-bytes-spec =
     tie.close
@@ -34,7 +27,6 @@ flat-bytes-spec =
     (λ c κs. search needs)
     (λ c. search needs)
     returns
-    (λ c. search needs)
     (λ c κs. search needs)
     (λ c. search needs)
-    returns-2)
+    (λ c. search needs))

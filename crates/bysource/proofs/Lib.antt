@@ -1,0 +1,5 @@
+pub mod Strokes
+pub mod Shown
+pub mod Part
+pub mod Whole
+pub mod Settled

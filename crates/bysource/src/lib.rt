@@ -1,0 +1,331 @@
+// An 8-bit picture by a flat element, a source row at a time:
+// the windows of a row are made once, and joined into every row of the result that sees it.
+// The target's own rows gather them, in any order: a join that is repeated changes nothing.
+use element::Outline;
+use element::RowWord;
+use picture::Bin;
+use picture::Depth;
+ghost use mathlib.Core.Path.{_≡_};
+ghost use mathlib.Core.Bool.{false};
+ghost use Prim.Native.Nat.{ℕ, _+_, _-_, _*_, _/_, _≤_, _<_};
+ghost use lib.ListN.{length, replicate};
+ghost use Rattle.picture.specs.Frame.{mostPings, Holds, frame};
+ghost use Rattle.picture.specs.Points.{valueAt};
+ghost use Rattle.picture.specs.Bytes.{written, bytesOf};
+ghost use Rattle.element.specs.Record.{shapeBy};
+ghost use Rattle.morphology.specs.Operations.{flat};
+ghost use Rattle.rows.specs.Steps.Ready.{Ready};
+ghost use Rattle.rows.specs.Steps.Ways.{sweptBy};
+ghost use Rattle.rows.specs.Steps.Fold.{startBy};
+ghost use Rattle.packedline.specs.Steps.Cells.{levelOf, RunOf};
+ghost use Rattle.bitrow.specs.Steps.Added.{rowIn};
+ghost use Rattle.bysource.specs.Steps.Strokes.{kindOf, nextOf, spotOf, baseOf, Strokes};
+ghost use Rattle.bysource.specs.Steps.Shown.{Rooms};
+ghost use Rattle.bysource.specs.Steps.Part.{kindAt, Part};
+
+// Where the second room begins: 64 places beyond the frame, the longest row, 64 beyond the frame,
+// and what the last block looks ahead.
+const ROOM: usize = 1232;
+
+const ROOMS: usize = 2464;
+
+const CELLS: usize = packedline::CELLS;
+
+// ---- which windows make up a row of an element
+
+// The next cell's digit, where the rest has it; `half` is half of the first cell's.
+fn next_cell(rest: u64, half: u64) -> u64
+    ensures { λ r. ⌜ r ≡ nextOf rest half ⌝ }
+{
+    if half == 0 {
+        return 0;
+    }
+    if rest < half { 0 } else { half }
+}
+
+// Where a cell stands that falls on place p: alone in the first room, with the next one in the second.
+fn spot(grows: bool, p: usize, next: u64) -> usize
+    requires { ⌜ (0 < p) × (p < 128) ⌝ }
+    ensures { λ r. ⌜ (r ≡ spotOf grows p next) × (r < 1360) ⌝ }
+{
+    if next == 0 {
+        return p;
+    }
+    if grows { ROOM + p - 1 } else { ROOM + p }
+}
+
+// The set cells, two neighbours at a time where there are two; it gives how many places they take.
+fn cell_places(at: &mut [u16], grows: bool, word: u64, o: usize) -> usize
+    requires { ⌜ (o < 64) × (length (now at) ≡ 64) ⌝ }
+    ensures { λ r. ⌜ Strokes grows word o 0 r (now (at .exit)) ⌝ }
+{
+    let mut m = word;
+    let mut count = 0;
+    while m != 0 {
+        let c = packedline::first_cell(m);
+        let b = packedline::cell_bit(c);
+        let rest = m - b;
+        let next = next_cell(rest, b / 2);
+        let p = packedline::cell_place(grows, o, c);
+        at[count] = spot(grows, p, next) as u16;
+        m = rest - next;
+        count += 1;
+    }
+    count
+}
+
+// A run of `wide` cells, the first of which falls on place `from`:
+// windows of n side by side, the last at its end.
+fn run_places(at: &mut [u16], n: usize, wide: usize, from: usize) -> usize
+    requires { ⌜ (0 < n) × ((n ≤ wide) × ((wide ≤ 64) × (from < 1360))) ⌝ }
+    requires { ⌜ length (now at) ≡ 64 ⌝ }
+    ensures { λ r. ⌜ RunOf n wide from r (now (at .exit)) ⌝ }
+{
+    let mut count = 0;
+    let mut c = 0;
+    while c + n < wide {
+        at[count] = (from + c) as u16;
+        count += 1;
+        c += n;
+    }
+    at[count] = (from + wide - n) as u16;
+    count + 1
+}
+
+// The room in which windows of n stand.
+fn base_of(n: usize) -> usize
+    ensures { λ r. ⌜ (r ≡ baseOf n) × (r ≤ 1232) ⌝ }
+{
+    if n == 16 { ROOM } else { 0 }
+}
+
+// Where windows make up exactly the places of the set cells of a word that wants windows of n.
+fn places_of(at: &mut [u16], grows: bool, word: u64, o: usize, n: usize) -> usize
+    requires { ⌜ (o < 64) × (n ≡ levelOf word) ⌝ }
+    requires { ⌜ length (now at) ≡ 64 ⌝ }
+    ensures { λ r. ⌜ Strokes grows word o (kindOf n) r (now (at .exit)) ⌝ }
+{
+    if n <= 1 {
+        return cell_places(at, grows, word, o);
+    }
+    let c = packedline::first_cell(word);
+    let wide = packedline::cell_count(word);
+    let p = packedline::cell_place(grows, o, packedline::end_cell(grows, c, wide));
+    run_places(at, n, wide, base_of(n) + p)
+}
+
+// ---- the rooms
+
+// Single places in the first room, windows of two in the second.
+fn fill_cells(grows: bool, b: &mut [u8], s: &[u8], n: usize)
+    requires { ⌜ (length (now s) ≤ mostPings) × ((64 * n ≤ 1220) × (length (now b) ≡ 2464)) ⌝ }
+    requires { ⌜ now b ≡ replicate 2464 (startBy grows 255) ⌝ }
+    ensures { λ _. ⌜ Rooms grows 0 (now (s .entry)) n (now (b .exit)) ⌝ }
+{
+    packedline::copy_over(false, b, 64, s);
+    rooms::widen(grows, b, 0, ROOM, n, 1, 1, 1);
+}
+
+// Windows of 4 in the first room, windows of 16 in the second.
+fn fill_runs(grows: bool, b: &mut [u8], s: &[u8], n: usize)
+    requires { ⌜ (length (now s) ≤ mostPings) × ((64 * n ≤ 1220) × (length (now b) ≡ 2464)) ⌝ }
+    requires { ⌜ now b ≡ replicate 2464 (startBy grows 255) ⌝ }
+    ensures { λ _. ⌜ Rooms grows 1 (now (s .entry)) n (now (b .exit)) ⌝ }
+{
+    packedline::copy_over(false, b, ROOM + 64, s);
+    rooms::widen(grows, b, ROOM, 0, n, 1, 2, 3);
+    rooms::widen(grows, b, 0, ROOM, n, 4, 8, 12);
+}
+
+// The rooms of rows of kind k.
+fn fill_rooms(grows: bool, b: &mut [u8], s: &[u8], n: usize, k: usize)
+    requires { ⌜ (length (now s) ≤ mostPings) × ((64 * n ≤ 1220) × (length (now b) ≡ 2464)) ⌝ }
+    requires { ⌜ (k < 2) × (now b ≡ replicate 2464 (startBy grows 255)) ⌝ }
+    ensures { λ _. ⌜ Rooms grows k (now (s .entry)) n (now (b .exit)) ⌝ }
+{
+    if k == 0 {
+        fill_cells(grows, b, s, n);
+        return;
+    }
+    fill_runs(grows, b, s, n);
+}
+
+// ---- row after row
+
+// Single cells are of kind 0, longer runs of kind 1.
+fn kind_of(level: usize) -> usize
+    ensures { λ r. ⌜ r ≡ kindOf level ⌝ }
+{
+    if level <= 1 { 0 } else { 1 }
+}
+
+// One row of the element, of kind k, from source row v, whose windows stand in b:
+// joined into the row of the result that sees row v by it, if the frame has that row.
+// The source itself is only what is said of it.
+fn add_row(
+    grows: bool,
+    t: &mut [u8],
+    w: usize,
+    h: usize,
+    b: &[u8],
+    v: Bin,
+    o: Outline,
+    words: &[RowWord],
+    k: usize,
+    row: Bin,
+    s: &[u8],
+)
+    requires { ⌜ Ready Depth.EightBit (length (now s)) (length (now words)) w h o ⌝ }
+    requires { ⌜ (length (now t) ≡ h * w) × ((v .0 < h) × ((row .0 < o .h) × (length (now b) ≡ 2464))) ⌝ }
+    requires { ⌜ Rooms grows k (rowIn w (now s) (v .0)) ((w + 202) / 64) (now b) ⌝ }
+    requires { ⌜ Part grows (now s) w h o (now words) k (v .0) (row .0) (now t) ⌝ }
+    ensures { λ _. ⌜ Part grows (now (s .entry)) w h o (now (words .entry)) k (v .0) (row .0 + 1)
+        (now (t .exit)) ⌝ }
+{
+    let r = row.0 as usize;
+    let word = words[r] & packedline::run_word(o.w);
+    let n = packedline::level_of(word);
+    if kind_of(n) != k {
+        return;
+    }
+    let origin = o.origin;
+    let y = rows::source_row(!grows, h, v, origin.bin, row);
+    if h <= y {
+        return;
+    }
+    let mut at = [0u16; CELLS];
+    let column = origin.ping;
+    let m = places_of(&mut at, grows, word, column.0 as usize, n);
+    let a = y * w;
+    let z = a + w;
+    rooms::join_row(grows, &mut t[a..z], b, &at[..m]);
+}
+
+// The rows of the element that are of kind k, from source row v.
+fn spread(
+    grows: bool,
+    t: &mut [u8],
+    w: usize,
+    h: usize,
+    b: &[u8],
+    v: Bin,
+    o: Outline,
+    words: &[RowWord],
+    k: usize,
+    s: &[u8],
+)
+    requires { ⌜ Ready Depth.EightBit (length (now s)) (length (now words)) w h o ⌝ }
+    requires { ⌜ (length (now t) ≡ h * w) × ((v .0 < h) × (length (now b) ≡ 2464)) ⌝ }
+    requires { ⌜ Rooms grows k (rowIn w (now s) (v .0)) ((w + 202) / 64) (now b) ⌝ }
+    requires { ⌜ Part grows (now s) w h o (now words) k (v .0) 0 (now t) ⌝ }
+    ensures { λ _. ⌜ Part grows (now (s .entry)) w h o (now (words .entry)) k (v .0 + 1) 0 (now (t .exit)) ⌝ }
+{
+    let mut r = 0;
+    while r < o.h {
+        add_row(grows, t, w, h, b, v, o, words, k, Bin(r as u16), s);
+        r += 1;
+    }
+}
+
+// Source row v into every row of the result that sees it by a row of the element of kind k.
+fn source_row(
+    grows: bool,
+    t: &mut [u8],
+    w: usize,
+    h: usize,
+    v: Bin,
+    o: Outline,
+    words: &[RowWord],
+    k: usize,
+    s: &[u8],
+)
+    requires { ⌜ Ready Depth.EightBit (length (now s)) (length (now words)) w h o ⌝ }
+    requires { ⌜ (length (now t) ≡ h * w) × ((v .0 < h) × (k < 2)) ⌝ }
+    requires { ⌜ Part grows (now s) w h o (now words) k (v .0) 0 (now t) ⌝ }
+    ensures { λ _. ⌜ Part grows (now (s .entry)) w h o (now (words .entry)) k (v .0 + 1) 0 (now (t .exit)) ⌝ }
+{
+    let mut b = [blocks::beyond(grows); ROOMS];
+    let a = (v.0 as usize) * w;
+    let z = a + w;
+    // as many blocks as the last place of the row reaches, and 12 places more
+    fill_rooms(grows, &mut b, &s[a..z], (w + 202) / 64, k);
+    spread(grows, t, w, h, &b, v, o, words, k, s);
+}
+
+// Whether a row of the element is of kind k.
+fn has_kind(words: &[RowWord], o: Outline, k: usize) -> bool
+    requires { ⌜ o .h ≤ length (now words) ⌝ }
+    ensures { λ r. ⌜ (r ≡ false → ((i : ℕ) → i < o .h → kindAt o (now (words .entry)) i ≡ k → ⊥)) ⌝ }
+{
+    let mut r = 0;
+    while r < o.h {
+        let n = packedline::level_of(words[r] & packedline::run_word(o.w));
+        if kind_of(n) == k {
+            return true;
+        }
+        r += 1;
+    }
+    false
+}
+
+// All source rows, for the rows of the element that are of kind k.
+fn pass(
+    grows: bool,
+    t: &mut [u8],
+    w: usize,
+    h: usize,
+    o: Outline,
+    words: &[RowWord],
+    k: usize,
+    s: &[u8],
+)
+    requires { ⌜ Ready Depth.EightBit (length (now s)) (length (now words)) w h o ⌝ }
+    requires { ⌜ (length (now t) ≡ h * w) × (k < 2) ⌝ }
+    requires { ⌜ Part grows (now s) w h o (now words) k 0 0 (now t) ⌝ }
+    ensures { λ _. ⌜ Part grows (now (s .entry)) w h o (now (words .entry)) (k + 1) 0 0 (now (t .exit)) ⌝ }
+{
+    if has_kind(words, o, k) {
+        let mut v = 0;
+        while v < h {
+            source_row(grows, t, w, h, Bin(v as u16), o, words, k, s);
+            v += 1;
+        }
+        return;
+    }
+}
+
+// The whole picture into a target of just its size.
+fn sweep_whole(
+    grows: bool,
+    s: &[u8],
+    t: &mut [u8],
+    w: usize,
+    h: usize,
+    o: Outline,
+    words: &[RowWord],
+)
+    requires { ⌜ Ready Depth.EightBit (length (now s)) (length (now words)) w h o ⌝ }
+    requires { ⌜ length (now t) ≡ h * w ⌝ }
+    ensures { λ _. ⌜ now (t .exit)
+        ≡ bytesOf Depth.EightBit
+        (sweptBy grows flat 255 (frame w h) (shapeBy o (now (words .entry)))
+        (valueAt Depth.EightBit (now (s .entry)) w)) w h ⌝ }
+{
+    rows::begin(grows, 255, t);
+    pass(grows, t, w, h, o, words, 0, s);
+    pass(grows, t, w, h, o, words, 1, s);
+}
+
+// The erosion, or the dilation, of the 8-bit picture in s by a flat element;
+// what lies past the picture in t stays.
+pub fn sweep(grows: bool, s: &[u8], t: &mut [u8], w: usize, h: usize, o: Outline, words: &[RowWord])
+    requires { ⌜ Ready Depth.EightBit (length (now s)) (length (now words)) w h o ⌝ }
+    requires { ⌜ Holds Depth.EightBit (length (now t)) w h ⌝ }
+    ensures { λ _. ⌜ now (t .exit)
+        ≡ written Depth.EightBit
+        (sweptBy grows flat 255 (frame w h) (shapeBy o (now (words .entry)))
+        (valueAt Depth.EightBit (now (s .entry)) w)) w h (now (t .entry)) ⌝ }
+{
+    let n = h * w;
+    sweep_whole(grows, s, &mut t[..n], w, h, o, words);
+}
