@@ -30,6 +30,6 @@ static double best(int (*run)(void)) {
 
 static uint32_t seed = 7;
 
-static uint32_t draw(void) { return (seed = seed * 1664525u + 1013904223u) >> 8; }
+static inline uint32_t draw(void) { return (seed = seed * 1664525u + 1013904223u) >> 8; }
 
 #endif

@@ -22,6 +22,9 @@
 #include <stddef.h>
 #include <stdint.h>
 
+/* The release: its first number moves where a program has to be changed. */
+#define QIK_VERSION "1.0"
+
 #ifdef __cplusplus
 extern "C" {
 #endif
