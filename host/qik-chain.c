@@ -1,5 +1,6 @@
 #include "qik-chain.h"
 
+#include "qik-descriptor.h"
 #include "qik-element.h"
 #include "qik-file.h"
 #include "qik-parts.h"
@@ -23,6 +24,31 @@ struct chain chain_at(const struct asked *asked, const struct words *words, int 
         chain.links++;
     }
     return chain;
+}
+
+/* the links of a chain that was found, each a word that --chain and check take */
+static void draw_links(FILE *to, uint8_t *at, uint32_t links) {
+    for (uint32_t i = 0; i < links; i++) {
+        struct element link = element_of(at, flat_len(at), "a link");
+        draw_in_line(to, &link);
+        at += link.len;
+    }
+}
+
+void run_chain_for(const struct asked *asked) {
+    enum { MOST_CHAIN = 5 * (4 + 8) }; /* five links of 8 x 8 */
+    uint8_t chain[MOST_CHAIN];
+    int place = 0;
+    struct element element = element_at(asked, &asked->given, &place, "ELEMENT");
+    no_more_than(asked, place + 1);
+    uint64_t answer = qik_find_chain(element.at, element.len, chain, sizeof chain);
+    if (qik_find_number(answer) == QIK_NOCHAIN)
+        refused(element.name, QIK_NOCHAIN, "", qik_find_gave_up(answer) ? "; the search gave up, so there may be one" : "; there is none");
+    judged(element.name, qik_find_number(answer));
+    struct text text;
+    open_text(&text);
+    draw_links(text.to, chain, qik_find_links(answer));
+    close_text(&text, file_at(asked, place));
 }
 
 void run_check(const struct asked *asked) {

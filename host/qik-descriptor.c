@@ -10,7 +10,7 @@ enum { HEAD = 4 }; /* width, height, origin column, origin row */
 
 static size_t row_of(const uint8_t *descriptor) { return ((size_t)descriptor[0] + 7) / 8; }
 
-static size_t flat_len(const uint8_t *descriptor) { return HEAD + row_of(descriptor) * descriptor[1]; }
+size_t flat_len(const uint8_t *descriptor) { return HEAD + row_of(descriptor) * descriptor[1]; }
 
 struct element element_of(uint8_t *at, size_t len, const char *name) {
     int weighted = len >= HEAD && at[0] > 0 && at[1] > 0 && len == flat_len(at) + (size_t)at[0] * at[1];
@@ -79,6 +79,14 @@ static void draw(const struct element *element, const char *name) {
         putc('\n', text.to);
     }
     close_text(&text, name);
+}
+
+void draw_in_line(FILE *to, const struct element *element) {
+    for (int y = 0; y < element->at[1]; y++) {
+        if (y) putc('/', to);
+        for (int x = 0; x < element->at[0]; x++) draw_cell(to, element, x, y);
+    }
+    putc('\n', to);
 }
 
 void write_element(const struct asked *asked, const struct element *element, const char *name) {

@@ -6,6 +6,7 @@
 
 #include <stddef.h>
 #include <stdint.h>
+#include <stdio.h>
 
 /* what a byte of a descriptor can say of a width or a height; the library takes less, and says so */
 enum { MOST_SIDE = 255 };
@@ -26,6 +27,12 @@ void set_height(struct element *element, int column, int row, int height);
 
 /* the number of set cells */
 int cells_of(const struct element *element);
+
+/* the bytes of a descriptor without heights, by its first four */
+size_t flat_len(const uint8_t *at);
+
+/* draws a flat element as one word and a line's end, its rows parted by / */
+void draw_in_line(FILE *to, const struct element *element);
 
 /* writes the descriptor, or draws it where text is asked for; refused where it is not well made. - is standard output */
 void write_element(const struct asked *asked, const struct element *element, const char *name);

@@ -10,6 +10,7 @@ void run_reconstruct(const struct asked *asked);
 void run_spectrum(const struct asked *asked);
 void run_nest(const struct asked *asked);
 void run_check(const struct asked *asked);
+void run_chain_for(const struct asked *asked);
 void run_element(const struct asked *asked);
 void run_convert(const struct asked *asked);
 void run_info(const struct asked *asked);

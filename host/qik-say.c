@@ -28,6 +28,7 @@ static const struct { const char *name, *words; } refusals[] = {
     [QIK_RETIRED] = {"RETIRED", "files of kind 3 are no longer made"},
     [QIK_NEST] = {"NEST", "the nest is listed of at most 16,384 points and 255 regions"},
     [QIK_BOOK] = {"BOOK", "no element book of this version, or a damaged one: book start makes a new one"},
+    [QIK_NOCHAIN] = {"NOCHAIN", "no chain of at most five links, each at most 8 cells wide and 8 high, was found"},
 };
 
 const char *refusal_name(uint32_t number) { return number < sizeof refusals / sizeof *refusals ? refusals[number].name : NULL; }
@@ -79,12 +80,16 @@ void failed(const char *name, int error) {
     exit(STATUS_FILE);
 }
 
+void refused(const char *what, uint32_t number, const char *where, const char *more) {
+    const char *name = refusal_name(number), *words = refusal_words(number);
+    say_now("%s: refused %u %s%s: %s%s", what, (unsigned)number, name ? name : "?", where, words ? words : "a number that qik does not know", more);
+    exit(STATUS_REFUSED);
+}
+
 void judged(const char *what, uint32_t answer) {
     uint32_t number = qik_number(answer);
     if (number == QIK_DONE) return;
     char at[40] = "";
     if (number == QIK_SPLIT) snprintf(at, sizeof at, " at dx %d, dy %d", qik_dx(answer), qik_dy(answer));
-    const char *name = refusal_name(number), *words = refusal_words(number);
-    say_now("%s: refused %u %s%s: %s", what, (unsigned)number, name ? name : "?", at, words ? words : "a number that qik does not know");
-    exit(STATUS_REFUSED);
+    refused(what, number, at, "");
 }

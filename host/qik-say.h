@@ -15,6 +15,9 @@ void failed(const char *name, int error) __attribute__((noreturn));
 /* an answer of the library to what: DONE goes on, a refusal ends with its number, its name and its meaning: status 1 */
 void judged(const char *what, uint32_t answer);
 
+/* a refusal of what, with where it was found behind its name and more behind its meaning, both often empty: status 1 */
+void refused(const char *what, uint32_t number, const char *where, const char *more) __attribute__((noreturn));
+
 /* a remark, for a terminal alone: qik goes on */
 void remark(const char *format, ...) __attribute__((format(printf, 1, 2)));
 

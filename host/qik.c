@@ -42,6 +42,9 @@ static const struct part {
      "holes in them, and so on. Of one-bit pictures.\n"},
     {"check", " ELEMENT LINK..", 0, run_check, "whether a chain of small elements stands for a large one",
      "On every picture in every frame; else refused as SPLIT, with the first offset at which they part.\n"},
+    {"chain-for", " ELEMENT [OUT]", 0, run_chain_for, "a chain of small elements that stands for a large one",
+     "A link to a line, as it is drawn, for check and --chain. It is checked before it is handed out.\n"
+     "Where none is found it is refused as NOCHAIN: there is none, or the search gave up.\n"},
     {"element", " ELEMENT [OUT]", TAKES_TO, run_element, "an element's descriptor, or with --text its drawing", ""},
     {"convert", " [IN [OUT]]", TAKES_TO, run_convert, "a picture in another format", "One bit stays one bit, and 8 stay 8: ECH and PBM, or ECH and PGM.\n"},
     {"info", " [IN]", 0, run_info, "what a picture's file is", ""},

@@ -47,7 +47,8 @@ enum qik_refusal {
     QIK_ABSENT = 14, /* the element book holds nothing under this number, or has no such number */
     QIK_RETIRED = 15, /* kind 3 of a file that is to be written: it is no longer made */
     QIK_NEST = 16,   /* a picture of more than 16,384 points or 255 regions, the outer one counted: its nesting is not listed */
-    QIK_BOOK = 17    /* the lent bytes are no element book, or are damaged */
+    QIK_BOOK = 17,   /* the lent bytes are no element book, or are damaged */
+    QIK_NOCHAIN = 18 /* no chain was found for an element; whether none exists comes with it */
 };
 
 /* Taking answers apart: qik_number, qik_dx and qik_dy any answer of 32 bits; the others the answer of a read. */
@@ -87,6 +88,16 @@ static inline uint32_t qik_nest_number(uint64_t answer) { return (uint32_t)(answ
 
 /* The regions of the picture, the outer one counted; 0 of a refusal. */
 static inline uint32_t qik_nest_regions(uint64_t answer) { return (uint32_t)(answer >> 16 & 65535u); }
+
+/* The number of an answer of qik_find_chain. */
+static inline uint32_t qik_find_number(uint64_t answer) { return (uint32_t)(answer & 255u); }
+
+/* Of one that is DONE, the links of the chain that was written, and its bytes. */
+static inline uint32_t qik_find_links(uint64_t answer) { return qik_find_number(answer) == QIK_DONE ? (uint32_t)(answer >> 16 & 65535u) : 0; }
+static inline uint32_t qik_find_bytes(uint64_t answer) { return (uint32_t)(answer >> 32 & 65535u); }
+
+/* Of one that is NOCHAIN, whether the search gave up; where it did not, there is no chain. */
+static inline int qik_find_gave_up(uint64_t answer) { return qik_find_number(answer) == QIK_NOCHAIN && (answer >> 16 & 65535u) == 1u; }
 
 /* One-bit erosion: a point of target is set when source is set at point + offset for every offset that stays in the frame.
  * source: a one-bit picture, exactly. element: a descriptor, not weighted. target: room for the picture.
@@ -219,6 +230,12 @@ uint32_t qik_weighted_close(uint64_t w, uint64_t h, const uint8_t *source, size_
  * The answer is packed, number + 256 * (dx mod 256) + 65536 * (dy mod 256): qik_number, qik_dx and qik_dy take it apart. Of a SPLIT dx and dy are the
  * first offset at fault, lesser dy first, then lesser dx; of any other answer they are 0, so that it is the plain number. */
 uint32_t qik_check_chain(const uint8_t *element, size_t element_len, uint64_t links, const uint8_t *chain, size_t chain_len);
+
+/* A chain for an element: links that qik_check_chain accepts, so that they do what the element does on every picture in every frame.
+ * element: a descriptor, not weighted. chain: room for the links' descriptors, one after another; 60 bytes are always enough, and further bytes stay.
+ * Answer: SHAPE, NOCHAIN, ROOM in this order, or DONE: number + 65536·links + 4294967296·bytes, which qik_find_number, qik_find_links and qik_find_bytes take apart. NOCHAIN is
+ * 18 where no chain exists and 18 + 65536 where the search gave up (qik_find_gave_up): docs/HOST.md says what it covers. */
+uint64_t qik_find_chain(const uint8_t *element, size_t element_len, uint8_t *chain, size_t chain_len);
 
 /* One-bit erosion by a chain: erodes by each link in turn, which gives the erosion by the element.
  * source: a one-bit picture, exactly. element, links, chain: as for qik_check_chain. first, second: room for the picture each, even for one link.

@@ -17,11 +17,11 @@ from ._book import Book, Party
 from ._element import Element
 from ._files import read, write
 from ._library import Refused
-from ._operations import (Region, black_tophat, chain_dilate, chain_erode, check_chain, closing, dilate, erode, gradient, hit_or_miss, nesting, opening,
+from ._operations import (Region, black_tophat, chain_dilate, chain_erode, check_chain, closing, dilate, erode, find_chain, gradient, hit_or_miss, nesting, opening,
                           reconstruct, size_spectrum, weighted_closing, weighted_dilate, weighted_erode, weighted_opening, white_tophat)
 
 __version__ = '1.0'
-__all__ = ['Book', 'Element', 'Party', 'Refused', 'Region', 'black_tophat', 'chain_dilate', 'chain_erode', 'check_chain', 'closing', 'dilate', 'erode', 'gradient',
+__all__ = ['Book', 'Element', 'Party', 'Refused', 'Region', 'black_tophat', 'chain_dilate', 'chain_erode', 'check_chain', 'closing', 'dilate', 'erode', 'find_chain', 'gradient',
            'hit_or_miss', 'nesting', 'opening', 'read', 'reconstruct', 'size_spectrum', 'weighted_closing', 'weighted_dilate', 'weighted_erode',
            'weighted_opening', 'white_tophat', 'write']
 

@@ -34,13 +34,13 @@ ENTRIES = {
     'nnbbbb': 'open1 open8 close1 close8 white_tophat1 white_tophat8 black_tophat1 black_tophat8 gradient1 gradient8 hit_or_miss weighted_open weighted_close',
     'nnbbnbbb': 'chain_erode1 chain_erode8 chain_dilate1 chain_dilate8',
     'nnnbb': 'ech_write',
-    'bb': 'ech_read pbm_read pgm_read',
+    'bb': 'ech_read pbm_read pgm_read find_chain',
     'bnb': 'check_chain display_put export_put',
     'bn': 'display_get export_get display_remove export_remove',
     'b': 'book_start display_tidy export_tidy',
 }
 # the answers that have more in them than 32 bits hold
-LONG = 'nesting ech_read pbm_read pgm_read display_get export_get'.split()
+LONG = 'nesting find_chain ech_read pbm_read pgm_read display_get export_get'.split()
 _KINDS: dict[str, list[Any]] = {'n': [ctypes.c_uint64], 'b': [ctypes.c_void_p, ctypes.c_size_t]}
 
 
@@ -82,12 +82,13 @@ REFUSALS = {
     15: ('RETIRED', 'files of kind 3 are no longer made'),
     16: ('NEST', 'the picture has more than 16,384 points, or more than 255 regions'),
     17: ('BOOK', 'the bytes are no element book, or a damaged one'),
+    18: ('NOCHAIN', 'no chain does what the element does'),
 }
 
 
 class Refused(ValueError):
-    """The library refuses what it was asked: `number` and `name` as the documents have them, and `dx` and `dy` of the first offset at fault where
-    the name is SPLIT, else 0.
+    """The library refuses what it was asked: `number` and `name` as the documents have them, `dx` and `dy` of the first offset at fault where the name is
+    SPLIT, else 0; and `gave_up` where the name is NOCHAIN and the search ended at its bound, so that there may be a chain all the same.
 
     >>> import qiksavlut
     >>> try:
@@ -99,13 +100,13 @@ class Refused(ValueError):
     7 SPLIT 3 0
     """
 
-    def __init__(self, number: int, dx: int = 0, dy: int = 0) -> None:
-        super().__init__(number, dx, dy)
-        self.number, self.dx, self.dy = number, dx, dy
+    def __init__(self, number: int, dx: int = 0, dy: int = 0, gave_up: bool = False) -> None:
+        super().__init__(number, dx, dy, gave_up)
+        self.number, self.dx, self.dy, self.gave_up = number, dx, dy, gave_up
         self.name: str = REFUSALS[number][0]
 
     def __str__(self) -> str:
-        words = REFUSALS[self.number][1]
+        words = 'no chain was found, and the search gave up' if self.gave_up else REFUSALS[self.number][1]
         return '%d %s: %s' % (self.number, self.name, words % (self.dx, self.dy) if '%' in words else words)
 
 

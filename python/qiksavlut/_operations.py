@@ -7,11 +7,13 @@ import numpy as np
 from numpy.typing import NDArray
 
 from ._element import Element, flat, weighted
-from ._library import calls, done
+from ._library import Refused, calls, done
 from ._pictures import EightBit, OneBit, Picture, judged, only, packed, plain, room, unpacked
 
 SIDES = 32
 MOST_REGIONS = 255
+# five links of 8 x 8, 12 bytes each
+MOST_CHAIN = 60
 
 
 def _applied(one: Any, eight: Any, middle: bool, picture: Any, element: Any) -> Any:
@@ -239,6 +241,30 @@ def check_chain(element: Element, chain: list[Element]) -> None:
     descriptor = flat(element)
     number, links = _links(chain)
     done(calls.check_chain(descriptor, len(descriptor), number, links, len(links)))
+
+
+def find_chain(element: Element) -> list[Element]:
+    """A chain of at most five links of at most 8 x 8 that `check_chain` accepts for the element. Where none is found it is Refused as NOCHAIN, and `gave_up`
+    says whether there may be one all the same.
+
+    >>> from qiksavlut import Element, check_chain, find_chain
+    >>> chain = find_chain(Element.row(31))
+    >>> check_chain(Element.row(31), chain)
+    >>> find_chain(Element.row(61))
+    Traceback (most recent call last):
+    ...
+    qiksavlut.Refused: 18 NOCHAIN: no chain does what the element does
+    """
+    descriptor, chain = flat(element), np.empty(MOST_CHAIN, np.uint8)
+    answer = calls.find_chain(descriptor, len(descriptor), room(chain), MOST_CHAIN)
+    if answer & 255:
+        raise Refused(answer & 255, gave_up=answer >> 16 == 1)
+    links, left = [], chain[:answer >> 32].tobytes()
+    for _ in range(answer >> 16 & 65535):
+        length = 4 + left[1] * (left[0] + 7 >> 3)
+        links.append(Element.from_descriptor(left[:length]))
+        left = left[length:]
+    return links
 
 
 def _chained(one: Any, eight: Any, picture: Any, element: Any, chain: Any) -> Any:

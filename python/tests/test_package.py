@@ -110,6 +110,7 @@ REFUSED = [
     (lambda: qiksavlut.reconstruct(~one, one), 12, 'MARKER', 0, 0),
     (lambda: qiksavlut.nesting(np.zeros((129, 128), bool)), 16, 'NEST', 0, 0),
     (lambda: qiksavlut.nesting(np.arange(64) % 2 + 2 * (np.arange(64)[:, None] % 2) == 0), 16, 'NEST', 0, 0),
+    (lambda: qiksavlut.find_chain(Element.row(61)), 18, 'NOCHAIN', 0, 0),
     (full_book, 13, 'FULL', 0, 0),
     (lambda: Book().export.get(0), 14, 'ABSENT', 0, 0),
     (lambda: Book().export.put(8, cell), 14, 'ABSENT', 0, 0),
@@ -184,6 +185,14 @@ class Pictures(unittest.TestCase):
                 whole = Element.row(sum(link.shape[1] - 1 for link in links[:number]) + 1)
                 self.assertTrue((qiksavlut.chain_erode(picture, whole, links[:number]) == qiksavlut.erode(picture, whole)).all())
                 self.assertTrue((qiksavlut.chain_dilate(picture, whole, links[:number]) == qiksavlut.dilate(picture, whole)).all())
+
+    def test_found(self):
+        """squares with the origin anywhere, their chains found and accepted"""
+        for side in range(1, 37):
+            whole = Element(np.ones((side, side), bool), (side - 1, side // 2))
+            chain = qiksavlut.find_chain(whole)
+            self.assertTrue(1 <= len(chain) <= 5)
+            qiksavlut.check_chain(whole, chain)
 
     def test_threads(self):
         """calls of many threads at once, each with its own pictures"""

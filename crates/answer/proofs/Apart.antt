@@ -11,6 +11,7 @@ use Rattle.answer.specs.declared.Answer.{Answer}
 use Rattle.answer.specs.declared.Answer.the-variants.{Done, Size, Source, Pad, Shape}
 use Rattle.answer.specs.declared.Answer.the-variants.{Overlap, Chain, Split, Room, Form, Job, Netpbm}
 use Rattle.answer.specs.declared.Answer.the-variants.{Marker, Full, Absent, Retired, Nest, Book}
+use Rattle.answer.specs.declared.Answer.the-variants.{NoChain}
 use Rattle.answer.specs.declared.Told.{Told}
 use Rattle.answer.specs.Answer.{told, plain, centre}
 use Rattle.answer.specs.Packed.{modByte, packed}
@@ -64,7 +65,8 @@ apart-told : (t : Told) → t .number < 2 ^ 8 → Back (t .dx) → Back (t .dy) 
 unfolding apart packed
 apart-told t hn hx hy = λ i. record {
   number = low (t .number) (modByte (t .dx)) (modByte (t .dy)) hn (hx .0) (hy .0) i;
-  dx = (ap coordinate (middle (t .number) (modByte (t .dx)) (modByte (t .dy)) hn (hx .0) (hy .0)) ∙ hx .1) i;
+  dx = (ap coordinate (middle (t .number) (modByte (t .dx)) (modByte (t .dy)) hn (hx .0) (hy .0))
+      ∙ hx .1) i;
   dy = (ap coordinate (high (t .number) (modByte (t .dx)) (modByte (t .dy)) hn (hx .0) (hy .0)) ∙ hy .1) i;
 }
 
@@ -93,3 +95,4 @@ taken-apart Absent bytes = plain-apart 14 (lit< tt)
 taken-apart Retired bytes = plain-apart 15 (lit< tt)
 taken-apart Nest bytes = plain-apart 16 (lit< tt)
 taken-apart Book bytes = plain-apart 17 (lit< tt)
+taken-apart NoChain bytes = plain-apart 18 (lit< tt)

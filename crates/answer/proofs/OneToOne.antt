@@ -10,6 +10,7 @@ use Rattle.answer.specs.declared.Answer.{Answer}
 use Rattle.answer.specs.declared.Answer.the-variants.{Done, Size, Source, Pad, Shape}
 use Rattle.answer.specs.declared.Answer.the-variants.{Overlap, Chain, Split, Room, Form, Job, Netpbm}
 use Rattle.answer.specs.declared.Answer.the-variants.{Marker, Full, Absent, Retired, Nest, Book}
+use Rattle.answer.specs.declared.Answer.the-variants.{NoChain}
 use Rattle.answer.specs.declared.Told.{Told}
 use Rattle.answer.specs.Answer.{told, plain, centre}
 
@@ -45,7 +46,8 @@ answerOf t =
     (cond (eqb (t .number) 14) Absent
     (cond (eqb (t .number) 15) Retired
     (cond (eqb (t .number) 16) Nest
-    Book))))))))))))))))
+    (cond (eqb (t .number) 17) Book
+    NoChain)))))))))))))))))
 
 answer-back : (a : Answer) → answerOf (told a) ≡ a
 unfolding told plain
@@ -67,6 +69,7 @@ answer-back Absent = refl
 answer-back Retired = refl
 answer-back Nest = refl
 answer-back Book = refl
+answer-back NoChain = refl
 
 pub told-one-to-one : (a b : Answer) → told a ≡ told b → a ≡ b
 told-one-to-one a b e = sym (answer-back a) ∙ ap answerOf e ∙ answer-back b

@@ -7,6 +7,7 @@ use Rattle.answer.specs.declared.Answer.{Answer}
 use Rattle.answer.specs.declared.Answer.the-variants.{Done, Size, Source, Pad, Shape}
 use Rattle.answer.specs.declared.Answer.the-variants.{Overlap, Chain, Split, Room, Form, Job, Netpbm}
 use Rattle.answer.specs.declared.Answer.the-variants.{Marker, Full, Absent, Retired, Nest, Book}
+use Rattle.answer.specs.declared.Answer.the-variants.{NoChain}
 use Rattle.answer.specs.declared.Told.{Told}
 
 -- a coordinate d of an offset is held as the byte d + centre, so that no number is negative
@@ -36,6 +37,7 @@ told Absent = plain 14
 told Retired = plain 15
 told Nest = plain 16
 told Book = plain 17
+told NoChain = plain 18
 
 -- 0 means done
 abbrev pub isDone : Told → Bool

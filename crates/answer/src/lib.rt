@@ -28,6 +28,7 @@ pub enum Answer {
     Retired,
     Nest,
     Book,
+    NoChain,
 }
 
 // An answer as a person reads it: its number, and dx and dy, which are 0 but for a split.
@@ -73,6 +74,7 @@ fn number_of(a: Answer) -> u32
         Answer::Retired => 15,
         Answer::Nest => 16,
         Answer::Book => 17,
+        Answer::NoChain => 18,
     }
 }
 

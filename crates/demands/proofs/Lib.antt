@@ -24,3 +24,4 @@ pub mod Book
 pub mod Again
 pub mod Spectrum
 pub mod Nesting
+pub mod Finds

@@ -22,3 +22,4 @@ pub mod Again
 pub mod SizeCalls
 pub mod NestCalls
 pub mod Nests
+pub mod Finds

@@ -10,7 +10,7 @@ use lib.ListN.{length}
 use Rattle.answer.specs.declared.Answer.{Answer}
 use Rattle.answer.specs.declared.Answer.the-variants.{Done, Size, Source, Pad, Shape}
 use Rattle.answer.specs.declared.Answer.the-variants.{Overlap, Chain, Split, Room, Form, Job, Netpbm}
-use Rattle.answer.specs.declared.Answer.the-variants.{Marker, Full, Absent, Retired, Nest, Book}
+use Rattle.answer.specs.declared.Answer.the-variants.{Marker, Full, Absent, Retired, Nest, Book, NoChain}
 use Rattle.answer.specs.declared.Told.{Told}
 use Rattle.answer.specs.Answer.{told, plain, isDone}
 use Rattle.answer.specs.Refuse.{refuse}
@@ -150,3 +150,4 @@ number-few Absent = omega arith
 number-few Retired = omega arith
 number-few Nest = omega arith
 number-few Book = omega arith
+number-few NoChain = omega arith

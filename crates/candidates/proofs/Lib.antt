@@ -1,0 +1,4 @@
+pub mod Numbers
+pub mod Extents
+pub mod Hulls
+pub mod Settled

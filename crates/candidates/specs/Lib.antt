@@ -1,0 +1,3 @@
+pub mod Extent
+pub mod Hull
+pub mod Candidates

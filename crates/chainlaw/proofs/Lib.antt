@@ -1,0 +1,9 @@
+pub mod Parts
+pub mod Walks
+pub mod Links
+pub mod Chains
+pub mod Measured
+pub mod Accepted
+pub mod Found
+pub mod None
+pub mod Outcomes

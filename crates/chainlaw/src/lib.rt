@@ -1,0 +1,1 @@
+// What the search for a chain finds, and where there is none to find: definitions and proofs, no code.
