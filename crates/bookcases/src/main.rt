@@ -42,9 +42,9 @@ fn call(party: Party, what: usize, book: &mut [u8], n: usize, element: &[u8]) {
 
 // A call of a line, and where the next one is.
 fn one(line: &[u8], at: usize, book: &mut [u8]) -> usize {
-    let who = lines::number_at(line, at);
-    let what = lines::number_at(line, who.next);
-    let n = lines::number_at(line, what.next);
+    let who = numbers::number_at(line, at);
+    let what = numbers::number_at(line, who.next);
+    let n = numbers::number_at(line, what.next);
     let mut element = io::buffer();
     let e = lines::buffer_at(line, n.next, &mut element);
     let party = party_of(who.value);
@@ -82,7 +82,7 @@ fn history(letter: u8, line: &[u8]) {
 fn each_line(input: &[u8]) {
     let mut at = 0;
     while at < input.len() {
-        let end = lines::line_end(input, at);
+        let end = numbers::line_end(input, at);
         history(input[at], &input[at..end]);
         at = end;
     }

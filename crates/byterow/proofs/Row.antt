@@ -21,8 +21,9 @@ use Rattle.morphology.specs.Order.{Bounded}
 use Rattle.rows.specs.Steps.Ways.{weighBy, sweptBy}
 use Rattle.rows.specs.Steps.Fold.{startBy}
 use Rattle.rows.specs.Steps.Row.{columnsOf, foldedRow, sourceRow, addedRow}
-use Rattle.rows.proofs.Columns.{columnsAfter, columns-none, columns-more, columns-all, added-none, added-some}
-use Rattle.rows.proofs.Weights.{unweighed}
+use Rattle.cellrow.proofs.Columns.{columnsAfter, columns-none, columns-more, columns-all}
+use Rattle.cellrow.proofs.Columns.{added-none, added-some}
+use Rattle.weighing.proofs.Weights.{unweighed}
 use Rattle.byterow.specs.Steps.Row.{heightenedBy, sweptBytes, byteRow}
 
 -- ---- one row of the element, from the source row v

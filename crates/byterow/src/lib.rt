@@ -38,7 +38,7 @@ fn add_row(
         let r = row.0 as usize;
         let a = v * w;
         let z = a + w;
-        rows::fold_row(
+        cellrow::fold_row(
             grows,
             t,
             &s[a..z],

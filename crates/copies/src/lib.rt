@@ -75,7 +75,7 @@ pub fn copy_picture(depth: Depth, face: Face, s: &[u8], t: &mut [u8], w: usize, 
         ≡ written depth (faced depth face (now (s .entry)) w) w h (now (t .entry)) ⌝ }
 {
     let n = picture::row_bytes(depth, w);
-    let u = picture::spare_bits(depth, w);
+    let u = padding::spare_bits(depth, w);
     let over = is_over(face);
     copy_rows(over, s, t, n, u, h);
 }
@@ -110,6 +110,6 @@ pub fn clear_padding(depth: Depth, t: &mut [u8], w: usize, h: usize)
         ≡ written depth (valueAt depth (now (t .entry)) w) w h (now (t .entry)) ⌝ }
 {
     let n = picture::row_bytes(depth, w);
-    let u = picture::spare_bits(depth, w);
+    let u = padding::spare_bits(depth, w);
     clear_rows(t, n, u, h);
 }

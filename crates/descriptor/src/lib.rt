@@ -1,18 +1,11 @@
 // Which bytes are a descriptor, and which a weighted one.
 use element::MOST_CELLS;
-use element::SIGN_BIT;
-use picture::Bin;
 use picture::Depth;
-use picture::Ping;
 use picture::Point;
 ghost use mathlib.Core.Path.{_≡_};
 ghost use Prim.Native.Nat.{_≤_};
-ghost use lib.ListN.{length};
-ghost use lib.Dec.{eqb};
-ghost use Rattle.picture.specs.Frame.{Holds};
 ghost use Rattle.element.specs.Descriptor.{headMade, cellsMade, wellMade};
-ghost use Rattle.element.specs.Descriptor.{heightMade, heightsMadeIn, heightsMade, wellWeighted};
-ghost use Rattle.element.specs.Steps.Heights.{Weighed};
+ghost use Rattle.element.specs.Descriptor.{wellWeighted};
 
 fn size(x: u8) -> usize
     ensures { λ r. ⌜ (r ≡ x) × (r ≤ 255) ⌝ }
@@ -57,7 +50,7 @@ fn cells_made(d: &[u8]) -> bool
         if d.len() < element::cells_end(w, h) {
             return false;
         }
-        picture::padding_clear(Depth::OneBit, &d[4..], w, h)
+        padding::padding_clear(Depth::OneBit, &d[4..], w, h)
     } else {
         false
     }
@@ -74,55 +67,6 @@ pub fn well_made(d: &[u8]) -> bool
     }
 }
 
-// One height beside its cell.
-fn height_made(set: u8, g: u8) -> bool
-    ensures { λ r. ⌜ r ≡ heightMade (eqb set 1) g ⌝ }
-{
-    if set == 1 {
-        return g != SIGN_BIT;
-    }
-    g == 0
-}
-
-// The heights of one row beside its cells.
-fn row_heights_made(cells: &[u8], heights: &[u8], w: usize, row: Bin) -> bool
-    requires { ⌜ Weighed (length (now cells)) (length (now heights)) w (row .0) ⌝ }
-    ensures { λ r. ⌜ r ≡ heightsMadeIn (now (cells .entry)) (now (heights .entry)) w (row .0) ⌝ }
-{
-    let mut c = 0;
-    while c < w {
-        let at = Point {
-            ping: Ping(c as u16),
-            bin: row,
-        };
-        let set = picture::value(Depth::OneBit, cells, w, at);
-        let g = picture::value(Depth::EightBit, heights, w, at);
-        if height_made(set, g) {
-            c += 1;
-        } else {
-            return false;
-        }
-    }
-    true
-}
-
-// The heights of all rows.
-fn heights_made(cells: &[u8], heights: &[u8], w: usize, h: usize) -> bool
-    requires { ⌜ Holds Depth.OneBit (length (now cells)) w h ⌝ }
-    requires { ⌜ Holds Depth.EightBit (length (now heights)) w h ⌝ }
-    ensures { λ r. ⌜ r ≡ heightsMade (now (cells .entry)) (now (heights .entry)) w h ⌝ }
-{
-    let mut y = 0;
-    while y < h {
-        if row_heights_made(cells, heights, w, Bin(y as u16)) {
-            y += 1;
-        } else {
-            return false;
-        }
-    }
-    true
-}
-
 // A weighted descriptor with nothing after its heights.
 pub fn well_weighted(d: &[u8]) -> bool
     ensures { λ r. ⌜ r ≡ wellWeighted (now (d .entry)) ⌝ }
@@ -132,7 +76,7 @@ pub fn well_weighted(d: &[u8]) -> bool
         let h = size(d[1]);
         let end = element::cells_end(w, h);
         if d.len() == end + h * w {
-            heights_made(&d[4..], &d[end..], w, h)
+            heights::heights_made(&d[4..], &d[end..], w, h)
         } else {
             false
         }

@@ -6,12 +6,6 @@ use Rattle.digits.proofs.put_byte.Kinds as put-byte-kinds
 use Rattle.digits.proofs.put_byte.Reads as put-byte
 use Rattle.digits.proofs.put_bytes.Kinds as put-bytes-kinds
 use Rattle.digits.proofs.put_bytes.Reads as put-bytes
-use Rattle.digits.proofs.decimal_len.Kinds as decimal-len-kinds
-use Rattle.digits.proofs.decimal_len.Reads as decimal-len
-use Rattle.digits.proofs.put_decimal.Kinds as put-decimal-kinds
-use Rattle.digits.proofs.put_decimal.Reads as put-decimal
-use Rattle.digits.proofs.put_labelled.Kinds as put-labelled-kinds
-use Rattle.digits.proofs.put_labelled.Reads as put-labelled
 
 pub put-byte-settled : Settles 1 put-byte-kinds.ps put-byte-kinds.r put-byte.Learnt
 put-byte-settled κs a x y s t p q = settled (p .0) (q .0)
@@ -26,20 +20,3 @@ put-bytes-settled κs a x y s t p q = settled (p .0) (q .0)
 pub put-bytes-settled-target : SettlesBytes 2 put-bytes-kinds.ps
     put-bytes-kinds.r put-bytes.Learnt (λ κs e. e .0 .now)
 put-bytes-settled-target κs a x y s t p q = settled (p .1) (q .1)
-
-pub decimal-len-settled : Settles 0 decimal-len-kinds.ps decimal-len-kinds.r decimal-len.Learnt
-decimal-len-settled κs a x y s t p q = settled (p .0) (q .0)
-
-pub put-decimal-settled : Settles 1 put-decimal-kinds.ps put-decimal-kinds.r put-decimal.Learnt
-put-decimal-settled κs a x y s t p q = settled (p .0) (q .0)
-
-pub put-decimal-settled-target : SettlesBytes 1 put-decimal-kinds.ps
-    put-decimal-kinds.r put-decimal.Learnt (λ κs e. e .0 .now)
-put-decimal-settled-target κs a x y s t p q = settled (p .1) (q .1)
-
-pub put-labelled-settled : Settles 2 put-labelled-kinds.ps put-labelled-kinds.r put-labelled.Learnt
-put-labelled-settled κs a x y s t p q = settled (p .0) (q .0)
-
-pub put-labelled-settled-target : SettlesBytes 2 put-labelled-kinds.ps
-    put-labelled-kinds.r put-labelled.Learnt (λ κs e. e .0 .now)
-put-labelled-settled-target κs a x y s t p q = settled (p .1) (q .1)

@@ -40,9 +40,9 @@ fn put_item(depth: Depth, t: &mut [u8], at: usize, v: u8, x: Ping) -> usize
         Depth::OneBit => digits::put_byte(t, at, mark_of(v)),
         Depth::EightBit => {
             if x.0 == 0 {
-                return digits::put_decimal(t, at, size(v));
+                return decimals::put_decimal(t, at, size(v));
             }
-            digits::put_labelled(t, at, b" ", size(v))
+            decimals::put_labelled(t, at, b" ", size(v))
         }
     }
 }
@@ -68,7 +68,7 @@ fn put_items(depth: Depth, t: &mut [u8], at: usize, s: &[u8], w: usize, y: Bin) 
             depth,
             t,
             next,
-            picture::value(depth, s, w, p),
+            points::value(depth, s, w, p),
             Ping(x as u16),
         );
         x += 1;
@@ -111,9 +111,9 @@ fn put_head(t: &mut [u8], w: usize, h: usize, kind: usize) -> usize
     ensures { λ r. ⌜ r ≡ length (headLine w h kind) ⌝ }
     ensures { λ _. ⌜ now (t .exit) ≡ put 0 (headLine w h kind) (now (t .entry)) ⌝ }
 {
-    let a = digits::put_labelled(t, 0, b"ECH ", w);
-    let b = digits::put_labelled(t, a, b"x", h);
-    let c = digits::put_labelled(t, b, b" kind ", kind);
+    let a = decimals::put_labelled(t, 0, b"ECH ", w);
+    let b = decimals::put_labelled(t, a, b"x", h);
+    let c = decimals::put_labelled(t, b, b" kind ", kind);
     digits::put_byte(t, c, b'\n')
 }
 

@@ -22,7 +22,7 @@ fn is_passed(padding: Padding, depth: Depth, s: &[u8], w: usize, h: usize) -> bo
     ensures { λ r. ⌜ r ≡ passes padding depth (now (s .entry)) w h ⌝ }
 {
     match padding {
-        Padding::Judged => picture::padding_clear(depth, s, w, h),
+        Padding::Judged => padding::padding_clear(depth, s, w, h),
         Padding::Free => true,
     }
 }

@@ -1,138 +1,14 @@
 // The regions of a one-bit picture found: each point is united with its like neighbours, in one scan,
 // and then each node has the first of its region under it.
 // Node 0 is what lies beyond the frame, node p + 1 is point p in row order.
-use picture::Bin;
-use picture::Depth;
-use picture::Ping;
-use picture::Point;
 ghost use mathlib.Core.Path.{_≡_};
-ghost use Prim.Native.Nat.{_+_, _*_, _≤_, _<_};
+ghost use Prim.Native.Nat.{_*_, _≤_, _<_};
 ghost use lib.ListN.{length, getD};
 ghost use Rattle.regions.specs.Regions.{pointOf};
-ghost use Rattle.labels.specs.Steps.Framed.{Framed, Places};
-ghost use Rattle.regions.specs.Steps.Union.{rootOf, united, edgeAt, outerMate, leftMate, upMate, upLeftMate};
-ghost use Rattle.regions.specs.Steps.Union.{upRightMate, mateOf, pointUnited, unitedTo, flatTo, alone};
+ghost use Rattle.mates.specs.Steps.Framed.{Framed, Places};
+ghost use Rattle.regions.specs.Steps.Union.{rootOf, united};
+ghost use Rattle.regions.specs.Steps.Union.{pointUnited, unitedTo, flatTo, alone};
 ghost use Rattle.regions.specs.Steps.Union.{labelled};
-
-// The value of point i.
-fn point(s: &[u8], w: usize, h: usize, i: usize) -> u8
-    requires { ⌜ Framed (length (now s)) w h ⌝ }
-    requires { ⌜ i < h * w ⌝ }
-    ensures { λ r. ⌜ r ≡ pointOf (now (s .entry)) w i ⌝ }
-{
-    let x = (i % w) as u16;
-    let y = (i / w) as u16;
-    let p = Point {
-        ping: Ping(x),
-        bin: Bin(y),
-    };
-    picture::value(Depth::OneBit, s, w, p)
-}
-
-// A point of this column and row lies on the frame's edge.
-fn on_edge(x: usize, y: usize, w: usize, h: usize) -> bool
-    requires { ⌜ (x < 65536) × (y < 65536) ⌝ }
-    ensures { λ r. ⌜ r ≡ edgeAt x y w h ⌝ }
-{
-    if x == 0 {
-        return true;
-    }
-    if x + 1 == w {
-        return true;
-    }
-    if y == 0 {
-        return true;
-    }
-    y + 1 == h
-}
-
-// The nodes that node i + 1 is united with, or itself where there is none: what lies beyond, where the point
-// is background on the edge.
-fn outer_mate(s: &[u8], w: usize, h: usize, i: usize) -> usize
-    requires { ⌜ Framed (length (now s)) w h ⌝ }
-    requires { ⌜ i < h * w ⌝ }
-    ensures { λ r. ⌜ r ≡ outerMate (pointOf (now (s .entry)) w) w h i ⌝ }
-{
-    if point(s, w, h, i) == 0 {
-        if on_edge(i % w, i / w, w, h) {
-            return 0;
-        }
-        return i + 1;
-    }
-    i + 1
-}
-
-// The point to the left, where it is like.
-fn left_mate(s: &[u8], w: usize, h: usize, i: usize) -> usize
-    requires { ⌜ Framed (length (now s)) w h ⌝ }
-    requires { ⌜ i < h * w ⌝ }
-    ensures { λ r. ⌜ r ≡ leftMate (pointOf (now (s .entry)) w) w i ⌝ }
-{
-    if i % w == 0 {
-        return i + 1;
-    }
-    if point(s, w, h, i - 1) == point(s, w, h, i) {
-        return i;
-    }
-    i + 1
-}
-
-// The point above, where it is like.
-fn up_mate(s: &[u8], w: usize, h: usize, i: usize) -> usize
-    requires { ⌜ Framed (length (now s)) w h ⌝ }
-    requires { ⌜ i < h * w ⌝ }
-    ensures { λ r. ⌜ r ≡ upMate (pointOf (now (s .entry)) w) w i ⌝ }
-{
-    if i / w == 0 {
-        return i + 1;
-    }
-    if point(s, w, h, i - w) == point(s, w, h, i) {
-        return i - w + 1;
-    }
-    i + 1
-}
-
-// The point above and to the left, where both are echoes.
-fn up_left_mate(s: &[u8], w: usize, h: usize, i: usize) -> usize
-    requires { ⌜ Framed (length (now s)) w h ⌝ }
-    requires { ⌜ i < h * w ⌝ }
-    ensures { λ r. ⌜ r ≡ upLeftMate (pointOf (now (s .entry)) w) w i ⌝ }
-{
-    if i / w == 0 {
-        return i + 1;
-    }
-    if i % w == 0 {
-        return i + 1;
-    }
-    if point(s, w, h, i) == 0 {
-        return i + 1;
-    }
-    if point(s, w, h, i - w - 1) == point(s, w, h, i) {
-        return i - w;
-    }
-    i + 1
-}
-
-// The point above and to the right, where both are echoes.
-fn up_right_mate(s: &[u8], w: usize, h: usize, i: usize) -> usize
-    requires { ⌜ Framed (length (now s)) w h ⌝ }
-    requires { ⌜ i < h * w ⌝ }
-    ensures { λ r. ⌜ r ≡ upRightMate (pointOf (now (s .entry)) w) w i ⌝ }
-{
-    if i / w == 0 {
-        return i + 1;
-    }
-    if i % w + 1 == w {
-        return i + 1;
-    }
-    if point(s, w, h, i) == 0 {
-        return i + 1;
-    }
-    if point(s, w, h, i - w + 1) == point(s, w, h, i) {
-        return i - w + 2;
-    }
-    i + 1
-}
 
 // What is under node i.
 fn under(up: &[u16], i: usize) -> usize
@@ -168,21 +44,6 @@ fn unite(up: &mut [u16], a: usize, b: usize)
     up[g] = m as u16;
 }
 
-// Mate k of point i, no later than the point itself.
-fn mate(s: &[u8], w: usize, h: usize, i: usize, k: usize) -> usize
-    requires { ⌜ Framed (length (now s)) w h ⌝ }
-    requires { ⌜ i < h * w ⌝ }
-    ensures { λ r. ⌜ r ≡ mateOf (pointOf (now (s .entry)) w) w h i k ⌝ }
-{
-    match k {
-        0 => outer_mate(s, w, h, i),
-        1 => left_mate(s, w, h, i),
-        2 => up_mate(s, w, h, i),
-        3 => up_left_mate(s, w, h, i),
-        _ => up_right_mate(s, w, h, i),
-    }
-}
-
 // Point i is united with its mates.
 fn unite_point(s: &[u8], w: usize, h: usize, up: &mut [u16], i: usize)
     requires { ⌜ Framed (length (now s)) w h ⌝ }
@@ -193,7 +54,7 @@ fn unite_point(s: &[u8], w: usize, h: usize, up: &mut [u16], i: usize)
 {
     let mut k = 0;
     while k < 5 {
-        let m = mate(s, w, h, i, k);
+        let m = mates::mate(s, w, h, i, k);
         unite(up, i + 1, m);
         k += 1;
     }

@@ -2,17 +2,10 @@
 -- for each public function, of its contract itself, as the prover reads it.
 use Rattle.basics.specs.Settles.{Settles, SettlesBytes}
 use Rattle.basics.proofs.Settled.{settled}
-use Rattle.lines.proofs.number_at.Kinds as number-at-kinds
-use Rattle.lines.proofs.number_at.Reads as number-at
 use Rattle.lines.proofs.buffer_at.Kinds as buffer-at-kinds
 use Rattle.lines.proofs.buffer_at.Reads as buffer-at
 use Rattle.lines.proofs.head_of.Kinds as head-of-kinds
 use Rattle.lines.proofs.head_of.Reads as head-of
-use Rattle.lines.proofs.line_end.Kinds as line-end-kinds
-use Rattle.lines.proofs.line_end.Reads as line-end
-
-pub number-at-settled : Settles 1 number-at-kinds.ps number-at-kinds.r number-at.Learnt
-number-at-settled κs a x y s t p q = settled p q
 
 pub buffer-at-settled : Settles 2 buffer-at-kinds.ps buffer-at-kinds.r buffer-at.Learnt
 buffer-at-settled κs a x y s t p q = settled (p .0) (q .0)
@@ -23,6 +16,3 @@ buffer-at-settled-bytes κs a x y s t p q = settled (p .1 .0) (q .1 .0)
 
 pub head-of-settled : Settles 1 head-of-kinds.ps head-of-kinds.r head-of.Learnt
 head-of-settled κs a x y s t p q = settled p q
-
-pub line-end-settled : Settles 1 line-end-kinds.ps line-end-kinds.r line-end.Learnt
-line-end-settled κs a x y s t p q = settled (p .0) (q .0)

@@ -5,8 +5,8 @@ use mathlib.Core.List.{List, _++_}
 use lib.Dec.{ltb}
 use lib.ListN.{length, drop}
 use Rattle.basics.specs.Lists.{firsts}
-use Rattle.lines.specs.declared.Found.{Found}
-use Rattle.lines.specs.Numbers.{numberAt}
+use Rattle.numbers.specs.declared.Found.{Found}
+use Rattle.numbers.specs.Numbers.{numberAt}
 
 -- the number of byte i, after the last one
 abbrev pub lastWith : List ℕ → ℕ → ℕ → Found → Found

@@ -6,7 +6,7 @@ use lib.Dec.{eqb}
 use Rattle.picture.specs.declared.Depth.{Depth}
 use Rattle.picture.specs.declared.Depth.the-variants.{OneBit, EightBit}
 use Rattle.lines.specs.declared.Head.{Head}
-use Rattle.lines.specs.Numbers.{numberAt}
+use Rattle.numbers.specs.Numbers.{numberAt}
 
 abbrev pub depthOf : ℕ → Depth
 depthOf bits = cond (eqb bits 1) OneBit EightBit

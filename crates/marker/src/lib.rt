@@ -67,7 +67,7 @@ fn lies_within(marker: &[u8], mask: &[u8], w: usize, h: usize) -> bool
         (valueAt Depth.OneBit (now (marker .entry)) w)) ⌝ }
 {
     let n = picture::row_bytes(Depth::OneBit, w);
-    let u = picture::spare_bits(Depth::OneBit, w);
+    let u = padding::spare_bits(Depth::OneBit, w);
     rows_within(marker, mask, n, u, h)
 }
 

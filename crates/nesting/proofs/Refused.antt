@@ -20,7 +20,7 @@ use Rattle.picture.specs.Frame.{sizedFrame, pictureBytes}
 use Rattle.picture.proofs.Sizes.{sized-tells}
 use Rattle.regions.specs.Limits.{mostPoints, mostRegions}
 use Rattle.regions.specs.Listing.{regionsOf}
-use Rattle.labels.specs.Steps.Framed.{Framed}
+use Rattle.mates.specs.Steps.Framed.{Framed}
 use Rattle.nesting.specs.declared.Nested.{Nested}
 use Rattle.nesting.specs.Nesting.{frameTests, regionTests, nestTests, nestAnswer, GivenBack}
 

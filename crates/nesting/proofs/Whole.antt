@@ -17,7 +17,7 @@ use Rattle.regions.proofs.Labels.{labels-first, firsts-unique}
 use Rattle.regions.proofs.Firsts.{first-low, first-twice, regions-same, listing-same}
 use Rattle.regions.proofs.Walks.{length-lines}
 use Rattle.regions.proofs.Once.{order-length}
-use Rattle.labels.specs.Steps.Framed.{Framed}
+use Rattle.mates.specs.Steps.Framed.{Framed}
 use Rattle.nesting.specs.Nesting.{frameTests, regionTests, nestAnswer, listed, nestLeft}
 use Rattle.nesting.specs.Steps.Written.{put}
 use Rattle.nesting.specs.Steps.Tree.{at, Labelled, Tree, Next}

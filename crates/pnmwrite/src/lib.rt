@@ -27,7 +27,7 @@ fn tail_len(depth: Depth) -> usize
 fn head_len(depth: Depth, w: usize, h: usize) -> usize
     ensures { λ r. ⌜ r ≡ length (headOf depth w h) ⌝ }
 {
-    4 + digits::decimal_len(w) + digits::decimal_len(h) + tail_len(depth)
+    4 + decimals::decimal_len(w) + decimals::decimal_len(h) + tail_len(depth)
 }
 
 // The magic, W and H, of PGM the maximum, at the start of t; the place that follows.
@@ -37,8 +37,8 @@ fn put_head(depth: Depth, t: &mut [u8], w: usize, h: usize) -> usize
     ensures { λ _. ⌜ now (t .exit) ≡ put 0 (headOf depth w h) (now (t .entry)) ⌝ }
 {
     let magic = [b'P', pnmheader::magic_digit(depth), b'\n'];
-    let a = digits::put_labelled(t, 0, &magic, w);
-    let b = digits::put_labelled(t, a, b" ", h);
+    let a = decimals::put_labelled(t, 0, &magic, w);
+    let b = decimals::put_labelled(t, a, b" ", h);
     let tail = [b'\n', b'2', b'5', b'5', b'\n'];
     let n = tail_len(depth);
     digits::put_bytes(t, b, &tail[..n])

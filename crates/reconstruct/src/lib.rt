@@ -79,7 +79,7 @@ fn pass(r: Rows, back: bool, y: usize, mask: &[u8], t: &mut [u8]) -> bool
             j: j,
             k: k,
         };
-        let b = settle::settle_cell(c, mask, t);
+        let b = settlecell::settle_cell(c, mask, t);
         changed = either(changed, b);
         i += 1;
     }
@@ -196,7 +196,7 @@ fn make(neighbours: Neighbours, w: usize, h: usize, marker: &[u8], mask: &[u8], 
 {
     copies::copy_picture(Depth::OneBit, Face::AsIs, marker, target, w, h);
     let n = picture::row_bytes(Depth::OneBit, w);
-    let u = picture::spare_bits(Depth::OneBit, w);
+    let u = padding::spare_bits(Depth::OneBit, w);
     let r = Rows {
         square: is_square(neighbours),
         n: n,

@@ -1,9 +1,6 @@
 pub mod Places
-pub mod Cell
 pub mod Fold
 pub mod Gathered
-pub mod Columns
-pub mod Weights
 pub mod Swept
 pub mod Written
 pub mod Settled

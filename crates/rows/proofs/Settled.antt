@@ -4,8 +4,6 @@ use Rattle.basics.specs.Settles.{Settles, SettlesBytes}
 use Rattle.basics.proofs.Settled.{settled}
 use Rattle.rows.proofs.is_growing.Kinds as is-growing-kinds
 use Rattle.rows.proofs.is_growing.Reads as is-growing
-use Rattle.rows.proofs.fold_row.Kinds as fold-row-kinds
-use Rattle.rows.proofs.fold_row.Reads as fold-row
 use Rattle.rows.proofs.place_in.Kinds as place-in-kinds
 use Rattle.rows.proofs.place_in.Reads as place-in
 use Rattle.rows.proofs.source_row.Kinds as source-row-kinds
@@ -15,10 +13,6 @@ use Rattle.rows.proofs.begin.Reads as begin
 
 pub is-growing-settled : Settles 0 is-growing-kinds.ps is-growing-kinds.r is-growing.Learnt
 is-growing-settled κs a x y s t p q = settled p q
-
-pub fold-row-settled : SettlesBytes 3 fold-row-kinds.ps
-    fold-row-kinds.r fold-row.Learnt (λ κs e. e .1 .0 .now)
-fold-row-settled κs a x y s t p q = settled p q
 
 pub place-in-settled : Settles 0 place-in-kinds.ps place-in-kinds.r place-in.Learnt
 place-in-settled κs a x y s t p q = settled p q

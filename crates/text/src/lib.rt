@@ -24,7 +24,7 @@ pub fn most_len(depth: Depth, w: usize, h: usize, kind: usize) -> usize
     ensures { λ r. ⌜ r ≡ mostText depth w h kind ⌝ }
 {
     let n = h * most_line(depth, w);
-    12 + digits::decimal_len(w) + digits::decimal_len(h) + digits::decimal_len(kind) + n
+    12 + decimals::decimal_len(w) + decimals::decimal_len(h) + decimals::decimal_len(kind) + n
 }
 
 // The line of a refusal at the start of t; the further bytes stay.
@@ -34,6 +34,6 @@ pub fn put_refused(t: &mut [u8], number: usize) -> usize
     ensures { λ _. ⌜ now (t .exit)
         ≡ refusedLine number ++ drop (length (refusedLine number)) (now (t .entry)) ⌝ }
 {
-    let a = digits::put_labelled(t, 0, b"refused ", number);
+    let a = decimals::put_labelled(t, 0, b"refused ", number);
     digits::put_byte(t, a, b'\n')
 }

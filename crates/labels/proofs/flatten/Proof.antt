@@ -1,7 +1,7 @@
 -- Invariant: the first i places hold their root, as the definition has it; the others are as they were.
 -- What falls: the places that are left.
 use Rattle.regions.proofs.Join.{root-low}
-use Rattle.labels.proofs.Steps.{flat-none, flat-more, flat-all}
+use Rattle.mates.proofs.Steps.{flat-none, flat-more, flat-all}
 use Rattle.regions.specs.Steps.Union.{flatTo}
 use lib.ListN.{length, length-set}
 use mathlib.Core.Path.{_≡_, refl, _∙_}

@@ -1,6 +1,6 @@
 -- Three steps, each what its function promises of the places that the one before left.
 -- The definition has the same three.
-use Rattle.labels.proofs.Steps.{label-steps}
+use Rattle.mates.proofs.Steps.{label-steps}
 use borrow.Author.Needs.{needs}
 use Rattle.labels.proofs.label.Statement.{statement}
 use Rattle.labels.proofs.label.Tie as tie

@@ -1,6 +1,6 @@
 -- Invariant: the first i places hold their own number; the others are as they were.
 -- What falls: the places that are left.
-use Rattle.labels.proofs.Steps.{alone-none, alone-more, alone-all}
+use Rattle.mates.proofs.Steps.{alone-none, alone-more, alone-all}
 use Rattle.regions.specs.Steps.Union.{alone}
 use lib.ListN.{length, length-set}
 use mathlib.Core.Path.{_≡_, refl, _∙_}

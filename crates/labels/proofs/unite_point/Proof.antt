@@ -1,8 +1,8 @@
 -- Invariant: the point is united with its first k mates.
 -- What falls: the mates that are left. A mate is no later than the point, so that there is a place for it.
-use Rattle.labels.proofs.Steps.{mates-none, mates-more, mates-all}
+use Rattle.mates.proofs.Steps.{mates-none, mates-more, mates-all}
 use Rattle.regions.proofs.Labels.{mate-le}
-use Rattle.labels.proofs.Frames.{unite-room}
+use Rattle.mates.proofs.Frames.{unite-room}
 use Rattle.regions.specs.Steps.Union.{matesUnited}
 use Rattle.regions.specs.Regions.{pointOf}
 use lib.ListN.{length}

@@ -1,6 +1,6 @@
 -- Invariant: the first i points are united with their mates.
 -- What falls: the points that are left.
-use Rattle.labels.proofs.Steps.{points-none, points-more, points-all}
+use Rattle.mates.proofs.Steps.{points-none, points-more, points-all}
 use Rattle.regions.specs.Steps.Union.{unitedTo}
 use Rattle.regions.specs.Regions.{pointOf}
 use lib.ListN.{length}

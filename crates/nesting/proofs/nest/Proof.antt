@@ -10,7 +10,7 @@ use lib.ListN.{length}
 use Rattle.answer.specs.Answer.{plain, isDone}
 use Rattle.answer.specs.Refuse.{refuse}
 use Rattle.answer.proofs.Lent.{kept-by}
-use Rattle.labels.specs.Steps.Framed.{Framed}
+use Rattle.mates.specs.Steps.Framed.{Framed}
 use Rattle.nesting.specs.Nesting.{frameTests}
 use Rattle.nesting.proofs.Refused.{framed, stopped, back-refused, back-as}
 use Rattle.nesting.proofs.Whole.{labelled-of, as-many, answer-as, list-as}
