@@ -45,6 +45,25 @@ fn sweep_bits(k: Task, s: &[u8], t: &mut [u8], w: usize, h: usize, o: Outline, w
     }
 }
 
+// The same by a flat element: a rectangle goes its own way. One row alone is sooner made row by row.
+fn flat_bits(grows: bool, s: &[u8], t: &mut [u8], w: usize, h: usize, o: Outline, words: &[RowWord])
+    requires { ⌜ Ready Depth.OneBit (length (now s)) (length (now words)) w h o ⌝ }
+    requires { ⌜ Holds Depth.OneBit (length (now t)) w h ⌝ }
+    ensures { λ _. ⌜
+        now (t .exit)
+        ≡ written Depth.OneBit (flatOf grows Depth.OneBit (now (s .entry)) w h o (now (words .entry)))
+        w h (now (t .entry)) ⌝ }
+{
+    if 1 < o.h {
+        if boxes::is_box(words, o) {
+            rectangle::bits(grows, s, t, w, h, o);
+            return;
+        }
+    }
+    let k = Task { over: false, grows };
+    sweep_bits(k, s, t, w, h, o, words);
+}
+
 // The same of an 8-bit picture.
 fn sweep_bytes(
     grows: bool,
@@ -182,8 +201,7 @@ pub fn flat(
     let grows = rows::is_growing(way);
     match depth {
         Depth::OneBit => {
-            let k = Task { over: false, grows };
-            sweep_bits(k, source, target, w, h, e.outline, &words);
+            flat_bits(grows, source, target, w, h, e.outline, &words);
         }
         Depth::EightBit => {
             flat_bytes(grows, source, target, w, h, e.outline, &words);

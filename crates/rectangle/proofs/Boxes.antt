@@ -11,17 +11,19 @@ use Rattle.basics.specs.Bits.{bit}
 use Rattle.basics.proofs.Tests.{all-at}
 use Rattle.picture.specs.Frame.{top, frame}
 use Rattle.picture.specs.Points.{valueAt}
+use Rattle.picture.specs.Bytes.{written}
+use Rattle.picture.proofs.Points.{written-same}
 use Rattle.element.specs.declared.Outline.{Outline}
 use Rattle.element.specs.Descriptor.{mostCells}
 use Rattle.element.specs.Record.{cellOn, shapeOf, shapeBy}
 use Rattle.morphology.specs.Operations.{flat}
-use Rattle.morphology.proofs.Cells.{withCells, erode-cells, dilate-cells}
+use Rattle.morphology.proofs.Cells.{erode-cells, dilate-cells}
 use Rattle.rows.specs.Steps.Ways.{sweptBy}
 use Rattle.packedline.specs.Steps.Cells.{runWord}
 use Rattle.packedline.proofs.Covers.{run-on}
 use Rattle.joins.specs.Steps.Joins.{depthIf}
 use Rattle.boxes.specs.Steps.Box.{isBox}
-use Rattle.rectangle.specs.Steps.Box.{boxShape, boxed}
+use Rattle.boxlaw.specs.Steps.Box.{boxShape, boxed}
 
 module _ (words : List ℕ) (o : Outline) (few : o .w ≤ mostCells) (box : isBox words (o .h) (o .w) ≡ true)
   where
@@ -45,3 +47,12 @@ module _ (words : List ℕ) (o : Outline) (few : o .w ≤ mostCells) (box : isBo
         sym (erode-cells (shapeBy o words) (λ c r. true) cells-on (frame w h) (valueAt (depthIf packed) s w)
         x y flat
         (top (depthIf packed)))
+
+    -- and so does a picture that is written by it
+    pub as-box : (packed grows : Bool) (s t u : List ℕ) (w h : ℕ)
+        → u ≡ written (depthIf packed) (boxed packed grows s w h o) w h t
+        → u ≡ written (depthIf packed)
+        (sweptBy grows flat (top (depthIf packed)) (frame w h) (shapeBy o words) (valueAt (depthIf packed) s
+        w)) w h t
+    as-box packed grows s t u w h eu =
+        eu ∙ written-same (depthIf packed) _ _ w h t (λ x y lx ly. box-same packed grows s w h x y)

@@ -1,11 +1,2 @@
-pub mod Runs
-pub mod Swept
-pub mod Seen
-pub mod Padded
-pub mod Point
-pub mod Row
-pub mod Put
-pub mod Parts
-pub mod Rows
 pub mod Boxes
 pub mod Settled

@@ -1,5 +1,2 @@
 -- How the work goes: a picture by a rectangle, two rows at a time.
 pub mod Box
-pub mod Along
-pub mod Seen
-pub mod Put

@@ -1,13 +1,13 @@
 -- By the depth, each with its own way.
 -- What either promises of the element's own outline and row words is the flat operation: `flat-found`.
-use Rattle.apply.proofs.Applied.{ready, holds-at, flat-found, rows-of-bits}
+use Rattle.apply.proofs.Applied.{ready, holds-at, flat-found}
 use Rattle.picture.specs.declared.Depth.the-variants.{OneBit, EightBit}
 use borrow.Author.Needs.{needs}
 use Rattle.apply.proofs.flat.Statement.{statement}
 use Rattle.apply.proofs.flat.Tie as tie
 
-sweep-bits-requires : tie.Need-sweep-bits-requires
-sweep-bits-requires c κs = let e = c .before .before .before .before .before .before .before .before in
+flat-bits-requires : tie.Need-flat-bits-requires
+flat-bits-requires c κs = let e = c .before .before .before .before .before .before .before .before in
     let q = c .before .before .enum-told .given .1 in (
       ready OneBit _ (e .args .w) (e .args .h) (e .args .e) (holds-at _ _ _ _ _ q (e .pre .0)) (e .pre .1 .1),
       holds-at _ _ _ _ _ q (e .pre .1 .0),
@@ -26,9 +26,8 @@ returns c = let a = c .before .before .before .before .before .before .before .b
     .before .args in
     flat-found (a .w) (a .h) (a .e) (a .source .now) (a .target .now) _ _ _ (c .before .before .before
     .before .before .before .before .is-growing .ensures) (a .depth)
-    OneBit (c .before .before .before .before .before .enum-told .given .1) (rows-of-bits (a .w) (a .h)
-    (a .e .outline) (a .e .rows) (a .source .now) (a .target .now) _ _
-    (c .before .before .sweep-bits .ensures))
+    OneBit (c .before .before .before .before .before .enum-told .given .1) (c .before .before
+    .flat-bits .ensures)
 
 returns-2 : tie.Need-returns-2
 returns-2 c = let a = c .before .before .before .before .before .before .before .before .before .before
@@ -45,7 +44,7 @@ flat-spec =
     (λ c κs. search needs)
     (λ c. search needs)
     (λ c. search needs)
-    sweep-bits-requires
+    flat-bits-requires
     (λ c. search needs)
     (λ c. search needs)
     flat-bytes-requires

@@ -1,8 +1,8 @@
 -- Invariant: the first y rows are the result's, the rest of the target is as it was. What falls: the rows
 -- left.
 -- Each turn is two rows more, the second of which is left joined by the first: `two-more`.
-use Rattle.rectangle.specs.Steps.Box.{boxed}
-use Rattle.rectangle.proofs.Rows.{fit-still, fit-own, two-more, last-more, all-done}
+use Rattle.boxlaw.specs.Steps.Box.{boxed}
+use Rattle.boxpair.proofs.Rows.{fit-still, fit-own, two-more, last-more, all-done}
 use Rattle.rows.proofs.Written.{rowsWritten, written-none}
 use Rattle.joins.specs.Steps.Joins.{depthIf}
 use lib.ListN.{length}
@@ -73,8 +73,8 @@ loop-again c = let e = c .before .before .before .before .before .before .before
           (fit-still (a .packed) _ _ _ _ _ (a .w) (a .h) (a .o) (e .pre) (l .inv .1)
           (u .kept .1 .1 .1 .1 .0 ∙ l .inv .2))
           refl (c .before .before .before .before .before .before .before .before .before .before .before
-          .before .before .before .loop-test .taken) (l .inv .3) (u .ensures) refl (w .ensures .0) (w
-          .ensures .1),
+          .before .before .before .loop-test .taken) (l .inv .3) (u .ensures .0) refl (w .ensures .0) (w
+          .ensures .1 .1),
     )
 
 upper-requires-2 : tie.Need-upper-requires-2 Inv-loop μ-loop
@@ -100,7 +100,8 @@ returns c = let e = c .before .before .before .before .before .before .before .b
     let l = c .before .before .before .before .before .before .before .before .before .loop in
     last-more (a .packed) (a .grows) (a .s .now) (a .w) (a .h) (a .o) (a .t .now) _ _ _ (l .y) (l .t) _ (e
     .pre)
-    (l .inv .1) (omega arith) (omega arith) (l .inv .3) (c .before .before .before .before .upper2 .ensures)
+    (l .inv .1) (omega arith) (omega arith) (l .inv .3)
+    (c .before .before .before .before .upper2 .ensures .0)
 
 same-length-3 : tie.Need-same-length-3 Inv-loop μ-loop
 same-length-3 c = c .before .before .loop .inv .1

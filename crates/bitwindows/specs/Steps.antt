@@ -1,0 +1,2 @@
+-- How the work goes: windows of points, packed.
+pub mod Widened

@@ -1,0 +1,4 @@
+pub mod Swept
+pub mod Padded
+pub mod Point
+pub mod Row

@@ -1,0 +1,67 @@
+-- What the inner call asks and gives: the rows that two rows see.
+use Prim.Native.Nat.{ℕ, _+_, _-_, _*_, _≤_, _<_, min}
+use mathlib.Core.Path.{_≡_, sym, ap, ap₂, _∙_, subst}
+use mathlib.Core.Bool.{Bool}
+use mathlib.Core.List.{List}
+use native.Mathlib.Omega.{arith}
+use native.Mathlib.Nat.{mul-le-mul-right, le-trans}
+use Rattle.basics.specs.Lists.{firsts}
+use Rattle.basics.proofs.Lists.{firsts-same}
+use Rattle.picture.proofs.Sizes.{row-room}
+use Rattle.columns.specs.Steps.Down.{alsoAt, Pair}
+use Rattle.boxrow.specs.Steps.Along.{beforeOf}
+use Rattle.boxrow.proofs.Widths.{before-lt}
+use Rattle.boxseen.specs.Steps.Seen.{upperAt, lowerAt, LeadFit}
+
+lo-end : (above high h y z lo end : ℕ) → lo ≡ z - above → end ≡ min (y + high - above) h → above < high
+    → z ≤ y + 1 → z < h → lo ≤ end
+lo-end above high h y z lo end p q l m n = omega arith
+
+first-in : (above h y z first : ℕ) → first ≡ y - above → y ≤ z → z < h → first < h
+first-in above h y z first p l m = omega arith
+
+last-in : (a h z last : ℕ) → last ≡ min a (h - 1) → z < h → last < h
+last-in a h z last p l = omega arith
+
+end-in : (a h lo end : ℕ) → end ≡ min a h → lo ≤ end → lo + (end - lo) ≤ h
+end-in a h lo end p l = omega arith
+
+module _ (ns n nz h o high y z above lo end last first : ℕ) (grows : Bool) (fit : LeadFit ns n nz h o high
+    y z)
+    (ea : above ≡ beforeOf grows o high) (el : lo ≡ z - above) (ee : end ≡ min (y + high - above) h)
+    (et : last ≡ min (z + high - above - 1) (h - 1)) (ef : first ≡ y - above) where
+  pub lead-lo : lo ≤ end
+  lead-lo =
+      lo-end above high h y z lo end el ee
+      (subst (λ a. a < high) (sym ea) (before-lt grows o high (fit .origin-in))) (fit .next) (fit .row)
+
+  pub lead-fit : Pair ns n nz first lo (end - lo) last
+  lead-fit =
+      let a = mul-le-mul-right n (end-in (y + high - above) h lo end ee lead-lo) in
+      let b = row-room n (first-in above h y z first ef (fit .up) (fit .row)) in
+      let c = row-room n (last-in (z + high - above - 1) h z last et (fit .row)) in
+      record {
+        same = fit .same;
+        common = le-trans a (fit .source);
+        one = le-trans b (fit .source);
+        other = le-trans c (fit .source);
+      }
+
+  pub lead-upper : (packed : Bool) (s u : List ℕ) → u ≡ firsts (alsoAt packed grows s n lo (end - lo) first) n
+      → u ≡ firsts (upperAt packed grows s n h o high y z) n
+  unfolding upperAt
+  lead-upper packed s u e =
+      e ∙ firsts-same _ _ n (λ i l.
+      ap (λ a. alsoAt packed grows s n lo (end - lo) a i) (ef ∙ ap (λ a. y - a) ea)
+      ∙ ap₂ (λ a b. alsoAt packed grows s n a b (y - beforeOf grows o high) i) (el ∙ ap (λ a. z - a) ea)
+      (ap₂ (λ a b. a - b) ee el ∙ ap (λ a. min (y + high - a) h - (z - a)) ea))
+
+  pub lead-lower : (packed : Bool) (s u : List ℕ) → u ≡ firsts (alsoAt packed grows s n lo (end - lo) last) n
+      → u ≡ firsts (lowerAt packed grows s n h o high y z) n
+  unfolding lowerAt
+  lead-lower packed s u e =
+      e ∙ firsts-same _ _ n (λ i l.
+      ap (λ a. alsoAt packed grows s n lo (end - lo) a i) (et ∙ ap (λ a. min (z + high - a - 1) (h - 1)) ea)
+      ∙ ap₂ (λ a b. alsoAt packed grows s n a b (min (z + high - beforeOf grows o high - 1) (h - 1)) i)
+      (el ∙ ap (λ a. z - a) ea)
+      (ap₂ (λ a b. a - b) ee el ∙ ap (λ a. min (y + high - a) h - (z - a)) ea))

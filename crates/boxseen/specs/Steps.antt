@@ -1,0 +1,2 @@
+-- How the work goes: the rows that a row sees.
+pub mod Seen
