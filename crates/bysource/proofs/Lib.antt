@@ -1,5 +1,3 @@
-pub mod Strokes
-pub mod Shown
-pub mod Part
-pub mod Whole
+pub mod Filled
+pub mod Joined
 pub mod Settled

@@ -6,8 +6,7 @@ use element::RowWord;
 use picture::Bin;
 use picture::Depth;
 ghost use mathlib.Core.Path.{_≡_};
-ghost use mathlib.Core.Bool.{false};
-ghost use Prim.Native.Nat.{ℕ, _+_, _-_, _*_, _/_, _≤_, _<_};
+ghost use Prim.Native.Nat.{_+_, _-_, _*_, _/_, _≤_, _<_};
 ghost use lib.ListN.{length, replicate};
 ghost use Rattle.picture.specs.Frame.{mostPings, Holds, frame};
 ghost use Rattle.picture.specs.Points.{valueAt};
@@ -17,102 +16,16 @@ ghost use Rattle.morphology.specs.Operations.{flat};
 ghost use Rattle.rows.specs.Steps.Ready.{Ready};
 ghost use Rattle.rows.specs.Steps.Ways.{sweptBy};
 ghost use Rattle.rows.specs.Steps.Fold.{startBy};
-ghost use Rattle.packedline.specs.Steps.Cells.{levelOf, RunOf};
 ghost use Rattle.bitrow.specs.Steps.Added.{rowIn};
-ghost use Rattle.bysource.specs.Steps.Strokes.{kindOf, nextOf, spotOf, baseOf, Strokes};
-ghost use Rattle.bysource.specs.Steps.Shown.{Rooms};
-ghost use Rattle.bysource.specs.Steps.Part.{kindAt, Part};
+ghost use Rattle.sourceparts.specs.Steps.Part.{PartOf};
+ghost use Rattle.bysource.specs.Steps.Filled.{ByteRooms};
 
-// Where the second room begins: 64 places beyond the frame, the longest row, 64 beyond the frame,
-// and what the last block looks ahead.
-const ROOM: usize = 1232;
+// Where the second room begins, and both rooms.
+const ROOM: usize = strokes::ROOM;
 
 const ROOMS: usize = 2464;
 
 const CELLS: usize = packedline::CELLS;
-
-// ---- which windows make up a row of an element
-
-// The next cell's digit, where the rest has it; `half` is half of the first cell's.
-fn next_cell(rest: u64, half: u64) -> u64
-    ensures { λ r. ⌜ r ≡ nextOf rest half ⌝ }
-{
-    if half == 0 {
-        return 0;
-    }
-    if rest < half { 0 } else { half }
-}
-
-// Where a cell stands that falls on place p: alone in the first room, with the next one in the second.
-fn spot(grows: bool, p: usize, next: u64) -> usize
-    requires { ⌜ (0 < p) × (p < 128) ⌝ }
-    ensures { λ r. ⌜ (r ≡ spotOf grows p next) × (r < 1360) ⌝ }
-{
-    if next == 0 {
-        return p;
-    }
-    if grows { ROOM + p - 1 } else { ROOM + p }
-}
-
-// The set cells, two neighbours at a time where there are two; it gives how many places they take.
-fn cell_places(at: &mut [u16], grows: bool, word: u64, o: usize) -> usize
-    requires { ⌜ (o < 64) × (length (now at) ≡ 64) ⌝ }
-    ensures { λ r. ⌜ Strokes grows word o 0 r (now (at .exit)) ⌝ }
-{
-    let mut m = word;
-    let mut count = 0;
-    while m != 0 {
-        let c = packedline::first_cell(m);
-        let b = packedline::cell_bit(c);
-        let rest = m - b;
-        let next = next_cell(rest, b / 2);
-        let p = packedline::cell_place(grows, o, c);
-        at[count] = spot(grows, p, next) as u16;
-        m = rest - next;
-        count += 1;
-    }
-    count
-}
-
-// A run of `wide` cells, the first of which falls on place `from`:
-// windows of n side by side, the last at its end.
-fn run_places(at: &mut [u16], n: usize, wide: usize, from: usize) -> usize
-    requires { ⌜ (0 < n) × ((n ≤ wide) × ((wide ≤ 64) × (from < 1360))) ⌝ }
-    requires { ⌜ length (now at) ≡ 64 ⌝ }
-    ensures { λ r. ⌜ RunOf n wide from r (now (at .exit)) ⌝ }
-{
-    let mut count = 0;
-    let mut c = 0;
-    while c + n < wide {
-        at[count] = (from + c) as u16;
-        count += 1;
-        c += n;
-    }
-    at[count] = (from + wide - n) as u16;
-    count + 1
-}
-
-// The room in which windows of n stand.
-fn base_of(n: usize) -> usize
-    ensures { λ r. ⌜ (r ≡ baseOf n) × (r ≤ 1232) ⌝ }
-{
-    if n == 16 { ROOM } else { 0 }
-}
-
-// Where windows make up exactly the places of the set cells of a word that wants windows of n.
-fn places_of(at: &mut [u16], grows: bool, word: u64, o: usize, n: usize) -> usize
-    requires { ⌜ (o < 64) × (n ≡ levelOf word) ⌝ }
-    requires { ⌜ length (now at) ≡ 64 ⌝ }
-    ensures { λ r. ⌜ Strokes grows word o (kindOf n) r (now (at .exit)) ⌝ }
-{
-    if n <= 1 {
-        return cell_places(at, grows, word, o);
-    }
-    let c = packedline::first_cell(word);
-    let wide = packedline::cell_count(word);
-    let p = packedline::cell_place(grows, o, packedline::end_cell(grows, c, wide));
-    run_places(at, n, wide, base_of(n) + p)
-}
 
 // ---- the rooms
 
@@ -120,7 +33,7 @@ fn places_of(at: &mut [u16], grows: bool, word: u64, o: usize, n: usize) -> usiz
 fn fill_cells(grows: bool, b: &mut [u8], s: &[u8], n: usize)
     requires { ⌜ (length (now s) ≤ mostPings) × ((64 * n ≤ 1220) × (length (now b) ≡ 2464)) ⌝ }
     requires { ⌜ now b ≡ replicate 2464 (startBy grows 255) ⌝ }
-    ensures { λ _. ⌜ Rooms grows 0 (now (s .entry)) n (now (b .exit)) ⌝ }
+    ensures { λ _. ⌜ ByteRooms grows 0 (now (s .entry)) n (now (b .exit)) ⌝ }
 {
     packedline::copy_over(false, b, 64, s);
     rooms::widen(grows, b, 0, ROOM, n, 1, 1, 1);
@@ -130,7 +43,7 @@ fn fill_cells(grows: bool, b: &mut [u8], s: &[u8], n: usize)
 fn fill_runs(grows: bool, b: &mut [u8], s: &[u8], n: usize)
     requires { ⌜ (length (now s) ≤ mostPings) × ((64 * n ≤ 1220) × (length (now b) ≡ 2464)) ⌝ }
     requires { ⌜ now b ≡ replicate 2464 (startBy grows 255) ⌝ }
-    ensures { λ _. ⌜ Rooms grows 1 (now (s .entry)) n (now (b .exit)) ⌝ }
+    ensures { λ _. ⌜ ByteRooms grows 1 (now (s .entry)) n (now (b .exit)) ⌝ }
 {
     packedline::copy_over(false, b, ROOM + 64, s);
     rooms::widen(grows, b, ROOM, 0, n, 1, 2, 3);
@@ -141,7 +54,7 @@ fn fill_runs(grows: bool, b: &mut [u8], s: &[u8], n: usize)
 fn fill_rooms(grows: bool, b: &mut [u8], s: &[u8], n: usize, k: usize)
     requires { ⌜ (length (now s) ≤ mostPings) × ((64 * n ≤ 1220) × (length (now b) ≡ 2464)) ⌝ }
     requires { ⌜ (k < 2) × (now b ≡ replicate 2464 (startBy grows 255)) ⌝ }
-    ensures { λ _. ⌜ Rooms grows k (now (s .entry)) n (now (b .exit)) ⌝ }
+    ensures { λ _. ⌜ ByteRooms grows k (now (s .entry)) n (now (b .exit)) ⌝ }
 {
     if k == 0 {
         fill_cells(grows, b, s, n);
@@ -151,13 +64,6 @@ fn fill_rooms(grows: bool, b: &mut [u8], s: &[u8], n: usize, k: usize)
 }
 
 // ---- row after row
-
-// Single cells are of kind 0, longer runs of kind 1.
-fn kind_of(level: usize) -> usize
-    ensures { λ r. ⌜ r ≡ kindOf level ⌝ }
-{
-    if level <= 1 { 0 } else { 1 }
-}
 
 // One row of the element, of kind k, from source row v, whose windows stand in b:
 // joined into the row of the result that sees row v by it, if the frame has that row.
@@ -177,25 +83,25 @@ fn add_row(
 )
     requires { ⌜ Ready Depth.EightBit (length (now s)) (length (now words)) w h o ⌝ }
     requires { ⌜ (length (now t) ≡ h * w) × ((v .0 < h) × ((row .0 < o .h) × (length (now b) ≡ 2464))) ⌝ }
-    requires { ⌜ Rooms grows k (rowIn w (now s) (v .0)) ((w + 202) / 64) (now b) ⌝ }
-    requires { ⌜ Part grows (now s) w h o (now words) k (v .0) (row .0) (now t) ⌝ }
-    ensures { λ _. ⌜ Part grows (now (s .entry)) w h o (now (words .entry)) k (v .0) (row .0 + 1)
-        (now (t .exit)) ⌝ }
+    requires { ⌜ ByteRooms grows k (rowIn w (now s) (v .0)) ((w + 202) / 64) (now b) ⌝ }
+    requires { ⌜ PartOf Depth.EightBit grows (now s) w h o (now words) k (v .0) (row .0) (now t) ⌝ }
+    ensures { λ _. ⌜ PartOf Depth.EightBit grows (now (s .entry)) w h o (now (words .entry)) k (v .0)
+        (row .0 + 1) (now (t .exit)) ⌝ }
 {
-    let r = row.0 as usize;
-    let word = words[r] & packedline::run_word(o.w);
-    let n = packedline::level_of(word);
-    if kind_of(n) != k {
-        return;
-    }
     let origin = o.origin;
     let y = rows::source_row(!grows, h, v, origin.bin, row);
     if h <= y {
         return;
     }
+    let r = row.0 as usize;
+    let word = words[r] & packedline::run_word(o.w);
+    let n = packedline::level_of(word);
+    if strokes::kind_of(n) != k {
+        return;
+    }
     let mut at = [0u16; CELLS];
     let column = origin.ping;
-    let m = places_of(&mut at, grows, word, column.0 as usize, n);
+    let m = strokes::places_of(&mut at, grows, word, column.0 as usize, n);
     let a = y * w;
     let z = a + w;
     rooms::join_row(grows, &mut t[a..z], b, &at[..m]);
@@ -216,9 +122,10 @@ fn spread(
 )
     requires { ⌜ Ready Depth.EightBit (length (now s)) (length (now words)) w h o ⌝ }
     requires { ⌜ (length (now t) ≡ h * w) × ((v .0 < h) × (length (now b) ≡ 2464)) ⌝ }
-    requires { ⌜ Rooms grows k (rowIn w (now s) (v .0)) ((w + 202) / 64) (now b) ⌝ }
-    requires { ⌜ Part grows (now s) w h o (now words) k (v .0) 0 (now t) ⌝ }
-    ensures { λ _. ⌜ Part grows (now (s .entry)) w h o (now (words .entry)) k (v .0 + 1) 0 (now (t .exit)) ⌝ }
+    requires { ⌜ ByteRooms grows k (rowIn w (now s) (v .0)) ((w + 202) / 64) (now b) ⌝ }
+    requires { ⌜ PartOf Depth.EightBit grows (now s) w h o (now words) k (v .0) 0 (now t) ⌝ }
+    ensures { λ _. ⌜ PartOf Depth.EightBit grows (now (s .entry)) w h o (now (words .entry)) k (v .0 + 1) 0
+        (now (t .exit)) ⌝ }
 {
     let mut r = 0;
     while r < o.h {
@@ -241,8 +148,9 @@ fn source_row(
 )
     requires { ⌜ Ready Depth.EightBit (length (now s)) (length (now words)) w h o ⌝ }
     requires { ⌜ (length (now t) ≡ h * w) × ((v .0 < h) × (k < 2)) ⌝ }
-    requires { ⌜ Part grows (now s) w h o (now words) k (v .0) 0 (now t) ⌝ }
-    ensures { λ _. ⌜ Part grows (now (s .entry)) w h o (now (words .entry)) k (v .0 + 1) 0 (now (t .exit)) ⌝ }
+    requires { ⌜ PartOf Depth.EightBit grows (now s) w h o (now words) k (v .0) 0 (now t) ⌝ }
+    ensures { λ _. ⌜ PartOf Depth.EightBit grows (now (s .entry)) w h o (now (words .entry)) k (v .0 + 1) 0
+        (now (t .exit)) ⌝ }
 {
     let mut b = [blocks::beyond(grows); ROOMS];
     let a = (v.0 as usize) * w;
@@ -250,22 +158,6 @@ fn source_row(
     // as many blocks as the last place of the row reaches, and 12 places more
     fill_rooms(grows, &mut b, &s[a..z], (w + 202) / 64, k);
     spread(grows, t, w, h, &b, v, o, words, k, s);
-}
-
-// Whether a row of the element is of kind k.
-fn has_kind(words: &[RowWord], o: Outline, k: usize) -> bool
-    requires { ⌜ o .h ≤ length (now words) ⌝ }
-    ensures { λ r. ⌜ (r ≡ false → ((i : ℕ) → i < o .h → kindAt o (now (words .entry)) i ≡ k → ⊥)) ⌝ }
-{
-    let mut r = 0;
-    while r < o.h {
-        let n = packedline::level_of(words[r] & packedline::run_word(o.w));
-        if kind_of(n) == k {
-            return true;
-        }
-        r += 1;
-    }
-    false
 }
 
 // All source rows, for the rows of the element that are of kind k.
@@ -281,16 +173,17 @@ fn pass(
 )
     requires { ⌜ Ready Depth.EightBit (length (now s)) (length (now words)) w h o ⌝ }
     requires { ⌜ (length (now t) ≡ h * w) × (k < 2) ⌝ }
-    requires { ⌜ Part grows (now s) w h o (now words) k 0 0 (now t) ⌝ }
-    ensures { λ _. ⌜ Part grows (now (s .entry)) w h o (now (words .entry)) (k + 1) 0 0 (now (t .exit)) ⌝ }
+    requires { ⌜ PartOf Depth.EightBit grows (now s) w h o (now words) k 0 0 (now t) ⌝ }
+    ensures { λ _. ⌜ PartOf Depth.EightBit grows (now (s .entry)) w h o (now (words .entry)) (k + 1) 0 0
+        (now (t .exit)) ⌝ }
 {
-    if has_kind(words, o, k) {
-        let mut v = 0;
-        while v < h {
-            source_row(grows, t, w, h, Bin(v as u16), o, words, k, s);
-            v += 1;
-        }
+    if strokes::lacks_kind(words, o, k) {
         return;
+    }
+    let mut v = 0;
+    while v < h {
+        source_row(grows, t, w, h, Bin(v as u16), o, words, k, s);
+        v += 1;
     }
 }
 

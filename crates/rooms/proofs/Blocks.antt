@@ -6,27 +6,20 @@ use mathlib.Core.List.{List}
 use mathlib.Core.Logic.{⊎-elim}
 use native.Mathlib.Omega.{arith}
 use native.Mathlib.Numerals.{add-one}
-use lib.ListN.{length, getD, replicate, length-replicate}
+use lib.ListN.{length, getD}
 use Rattle.basics.specs.Lists.{firsts}
 use Rattle.basics.proofs.Lists.{length-firsts, getD-firsts, firsts-same, list-is}
 use Rattle.morphology.specs.Operations.{fold}
 use Rattle.rows.specs.Steps.Fold.{joinBy}
 use Rattle.blocks.specs.Steps.Laid.{laid}
 use Rattle.blocks.specs.Steps.Block.{blockOf}
-use Rattle.blocks.proofs.Laid.{laid-none, laid-next, laid-same, still, length-laid, get-first, get-before}
-use Rattle.blocks.proofs.Laid.{get-after}
+use Rattle.blocks.proofs.Laid.{laid-none, laid-next, get-before, get-after}
 use Rattle.joins.specs.Steps.Joins.{joinedAt}
-use Rattle.rooms.specs.Steps.Joined.{fourAt, widenedTo, atPlaces, joinedRow, Apart}
+use Rattle.rooms.specs.Steps.Joined.{fourAt, widenedTo, atPlaces, Apart}
+use Rattle.rooms.proofs.Row.{got, block-got}
 
 swap : (i d j : ℕ) → i + d + j ≡ i + j + d
 swap i d j = omega arith
-
-got : (f : ℕ → ℕ) (l : List ℕ) → l ≡ firsts f 64 → (j : ℕ) → j < 64 → getD l j 0 ≡ f j
-got f l e j h = ap (λ m. getD m j 0) e ∙ getD-firsts f 64 j h
-
-block-got : (b c : List ℕ) (i : ℕ) → c ≡ blockOf b i → (j : ℕ) → j < 64 → getD c j 0 ≡ getD b (i + j) 0
-unfolding blockOf
-block-got b c i e j h = got (λ j. getD b (i + j) 0) c e j h
 
 -- ---- one block of windows: three joins one after another
 module _ (grows : Bool) (b : List ℕ) (i : ℕ) where
@@ -112,60 +105,6 @@ module _ (grows : Bool) (c b : List ℕ) (i : ℕ) (at : List ℕ) where
   pub places-length : (acc : List ℕ) (j : ℕ) → acc ≡ placesAt j → length acc ≡ 64
   places-length acc j e = ap length e ∙ length-firsts _ 64
 
--- ---- a row: its blocks, and the bytes that are left
-module _ (grows : Bool) (b at t : List ℕ) where
-  abbrev pub rowAt : ℕ → ℕ
-  rowAt m = atPlaces grows (getD t m 0) b m at (length at)
-
-  pub blocks-none : t ≡ laid 0 (64 * 0) rowAt t
-  blocks-none = laid-none 0 rowAt t
-
-  pub blocks-more : (u c e v : List ℕ) (k : ℕ) → 64 * k + 64 ≤ length t → u ≡ laid 0 (64 * k) rowAt t
-      → c ≡ blockOf u (64 * k) → e ≡ placesAt grows c b (64 * k) at (length at)
-      → v ≡ laid (64 * k) 64 (λ j. getD e j 0) u → v ≡ laid 0 (64 * (k + 1)) rowAt t
-  blocks-more u c e v k fits so ec ee ev =
-      laid-next 0 (64 * k) 64 rowAt (λ j. getD e j 0) t u v (omega arith) so
-      (ev ∙ ap (λ n. laid n 64 (λ j. getD e j 0) u) (zero-plus (64 * k)))
-      (λ j h. got _ e ee j h
-      ∙ ap (λ n. atPlaces grows n b (64 * k + j) at (length at))
-      (block-got u c (64 * k) ec j h ∙ still 0 (64 * k) rowAt t u (64 * k + j) (omega arith) (omega arith)
-      so))
-      ∙ ap (λ m. laid 0 m rowAt t) (one k)
-    where
-      zero-plus : (i : ℕ) → i ≡ 0 + i
-      zero-plus i = omega arith
-
-      one : (k : ℕ) → 64 * k + 64 ≡ 64 * (k + 1)
-      one k = omega arith
-
-  pub rest-joined : (c e u : List ℕ) (i n : ℕ) → n ≤ 64 → i + n ≤ length t
-      → c ≡ laid 0 n (λ m. getD t (i + m) 0) (replicate 64 0)
-      → e ≡ placesAt grows c b i at (length at) → u ≡ laid i n (λ j. getD e j 0) t
-      → u ≡ laid i n (λ m. rowAt (i + m)) t
-  rest-joined c e u i n few fits ec ee eu =
-      eu ∙ laid-same i n _ _ t fits
-      (λ j h. got _ e ee j (omega arith)
-      ∙ ap (λ n. atPlaces grows n b (i + j) at (length at))
-      (ap (λ l. getD l j 0) ec
-      ∙ get-first n (λ m. getD t (i + m) 0) (replicate 64 0) j
-      (subst (λ m. n ≤ m) (sym (length-replicate {A = ℕ} 64 0)) few) h))
-
-  pub row-joined : (u v : List ℕ) (n : ℕ) → 64 * n ≤ length t → u ≡ laid 0 (64 * n) rowAt t
-      → v ≡ laid (64 * n) (length u - 64 * n)
-      (λ m. atPlaces grows (getD u (64 * n + m) 0) b (64 * n + m) at (length at)) u
-      → v ≡ joinedRow grows b at t
-  unfolding joinedRow
-  row-joined u v n fits eu ev =
-      laid-next 0 (64 * n) (length t - 64 * n) rowAt _ t u v (omega arith) eu
-      (ev ∙ ap₂ (λ i k. laid i k
-      (λ m. atPlaces grows (getD u (64 * n + m) 0) b (64 * n + m) at (length at)) u)
-      (zero-plus (64 * n)) (ap (λ k. k - 64 * n) (ap length eu ∙ length-laid 0 (64 * n) rowAt t)))
-      (λ j h. ap (λ v. atPlaces grows v b (64 * n + j) at (length at))
-      (still 0 (64 * n) rowAt t u (64 * n + j) (omega arith) (omega arith) eu))
-      ∙ ap (λ m. laid 0 m rowAt t) (whole (64 * n) (length t) fits)
-    where
-      zero-plus : (i : ℕ) → i ≡ 0 + i
-      zero-plus i = omega arith
-
-      whole : (a b : ℕ) → a ≤ b → a + (b - a) ≡ b
-      whole a b h = omega arith
+-- what becomes of the value v at m
+abbrev pub atAll : Bool → List ℕ → List ℕ → ℕ → ℕ → ℕ
+atAll grows b at v m = atPlaces grows v b m at (length at)

@@ -90,7 +90,7 @@ fn join_blocks(grows: bool, t: &mut [u8], n: usize, b: &[u8], at: &[u16])
 }
 
 // n bytes from the place `at` on, as the first of a block.
-fn some_at(s: &[u8], at: usize, n: usize) -> [u8; blocks::BLOCK]
+pub fn some_at(s: &[u8], at: usize, n: usize) -> [u8; blocks::BLOCK]
     requires { ⌜ (n ≤ 64) × (at + n ≤ length (now s)) ⌝ }
     ensures { λ r. ⌜ r ≡ laid 0 n (λ i. getD (now (s .entry)) (at + i) 0) (replicate 64 0) ⌝ }
 {
@@ -104,7 +104,7 @@ fn some_at(s: &[u8], at: usize, n: usize) -> [u8; blocks::BLOCK]
 }
 
 // The first n bytes of a block, laid over those of t from the place `at` on.
-fn put_some(t: &mut [u8], at: usize, n: usize, c: [u8; blocks::BLOCK])
+pub fn put_some(t: &mut [u8], at: usize, n: usize, c: [u8; blocks::BLOCK])
     requires { ⌜ (n ≤ 64) × (at + n ≤ length (now t)) ⌝ }
     ensures { λ _. ⌜ now (t .exit) ≡ laid at n (λ i. getD c i 0) (now (t .entry)) ⌝ }
 {

@@ -1,10 +1,10 @@
--- A row of another kind joins nothing, nor does one that leads to no row of the result. Else the places found
--- make up its cells, and what stands there is joined into the row that sees row v by it: `part-join`.
-use Rattle.bysource.proofs.Part.{part-other, part-out, part-join, kind-is, row-at, row-long, reach}
-use Rattle.bysource.proofs.Part.{word-masked}
-use Rattle.bysource.specs.Steps.Strokes.{Strokes, kindOf}
-use Rattle.bysource.specs.Steps.Part.{kindAt}
-use Rattle.bitrow.specs.Steps.Added.{maskedOf, rowIn}
+-- A row that leads to no row of the result joins nothing, nor does one of another kind. Else the places found
+-- make up its cells, and what stands there is joined into the row that sees row v by it: `bytes-join`.
+use Rattle.sourceparts.proofs.Part.{part-other, part-out}
+use Rattle.strokes.proofs.RowKinds.{kind-is, word-masked, reach}
+use Rattle.strokes.specs.Steps.Strokes.{Strokes, kindAt, kindOf}
+use Rattle.bysource.proofs.Joined.{bytes-join}
+use Rattle.bitrow.specs.Steps.Added.{maskedOf}
 use Rattle.picture.proofs.Sizes.{row-room}
 use Rattle.basics.proofs.Lists.{part-length}
 use lib.Bits.{bitAnd}
@@ -18,45 +18,45 @@ use Rattle.bysource.proofs.add_row.Statement.{statement}
 use Rattle.bysource.proofs.add_row.Tie as tie
 
 -- where the frame has the row of the result
+abbrev seen : tie.Else2 → tie.Else1
+seen e = e .before .before .before .before .before .before
+
 abbrev entry : tie.Else2 → tie.Start
-entry e = e .before .before .before .before .before .before .before .before .before .before .before
-    .before .before
+entry e = seen e .before .before .before .before .before .before .before
 
 room : (e : tie.Else2) → let a = entry e .args in
-    e .before .source-row .result * a .w + a .w ≤ length (a .t .now)
+    seen e .before .source-row .result * a .w + a .w ≤ length (a .t .now)
 room e =
     omega (
       arith,
-      row-room (entry e .args .w) {y = e .before .source-row .result} {n = entry e .args .h} (omega arith),
+      row-room (entry e .args .w) {y = seen e .before .source-row .result} {n = entry e .args .h}
+          (omega arith),
       entry e .pre .1 .0 .0,
     )
 
 word-is : (e : tie.Else2) → let a = entry e .args in
-    bitAnd (getD (a .words .now) (a .row .0) 0) (e .before .before .before .before .before .before
-    .run-word .result)
+    bitAnd (getD (a .words .now) (a .row .0) 0) (e .before .before .before .run-word .result)
     ≡ maskedOf (getD (a .words .now) (a .row .0) 0) (a .o .w)
 word-is e = word-masked (getD (entry e .args .words .now) (entry e .args .row .0) 0) (entry e .args .o .w) _
-    (e .before .before .before .before .before .before .run-word .ensures)
+    (e .before .before .before .run-word .ensures)
 
 returns : tie.Need-returns
 returns c =
-    let s = c .before .before .before .before .before .before .before .before .before .before in
+    let s = c .before .before .before .before .before .before .before in
     let a = s .args in
-    part-other (a .grows) (a .s .now) (a .w) (a .h) (a .o) (a .words .now) (a .k) (a .v .0) (a .row .0) (a
-    .t .now)
-    (λ z. c .if1 .taken (kind-is (a .o) (a .words .now) (a .row .0) _ _ _
-    (word-masked (getD (a .words .now) (a .row .0) 0) (a .o .w) _ (c .before .before .before .run-word
-    .ensures)) (c .before .before .level-of .ensures) (c .before .kind-of .ensures) ∙ z))
-    (s .pre .1 .1 .1)
+    part-out (a .grows) _ _ (a .w) (a .h) (a .o) (a .words .now) (a .k) (a .v .0) (a .row .0) _ _
+    (c .before .source-row .ensures) (c .if1 .taken) (s .pre .1 .1 .1)
 
 returns-2 : tie.Need-returns-2
 returns-2 c =
     let s = c .before .before .before .before .before .before .before .before .before .before .before
     .before .before in
     let a = s .args in
-    part-out (a .grows) (a .s .now) (a .w) (a .h) (a .o) (a .words .now) (a .k) (a .v .0) (a .row .0) _ (a
-    .t .now)
-    (c .before .source-row .ensures) (c .if2 .taken) (s .pre .1 .1 .1)
+    part-other (a .grows) _ _ (a .w) (a .h) (a .o) (a .words .now) (a .k) (a .v .0) (a .row .0) _
+    (λ z. c .if2 .taken (kind-is (a .o) (a .words .now) (a .row .0) _ _ _
+    (word-masked (getD (a .words .now) (a .row .0) 0) (a .o .w) _ (c .before .before .before .run-word
+    .ensures)) (c .before .before .level-of .ensures) (c .before .kind-of .ensures) ∙ z))
+    (s .pre .1 .1 .1)
 
 mul-a : tie.Need-mul-a
 mul-a c = omega (arith, room (c .before .before .before .before .before))
@@ -67,7 +67,7 @@ add-z c = omega (arith, room (c .before .before .before .before .before))
 slice-aggregate-join-row : tie.Need-slice-aggregate-join-row
 slice-aggregate-join-row c =
     let p = c .before .before .before .places-of in
-    sym (length-take-le (p .result) (p .last .0) (omega (arith, p .ensures .few, p .ensures .long)))
+    sym (length-take-le (p .result) (p .last .0) (omega (arith, p .ensures .0 .few, p .ensures .0 .long)))
 
 join-row-requires : tie.Need-join-row-requires
 join-row-requires c κs =
@@ -75,10 +75,10 @@ join-row-requires c κs =
     let s = entry e in
     let a = s .args in
     let p = c .before .before .before .places-of in
-    let l = part-length (a .t .now) (e .before .source-row .result * a .w) (a .w) (room e) in
+    let l = part-length (a .t .now) (seen e .before .source-row .result * a .w) (a .w) (room e) in
     λ j h. omega (
       arith,
-      reach _ _ _ _ (p .result) (p .last .0) (p .ensures) j h,
+      reach _ _ _ _ (p .result) (p .last .0) (p .ensures .0) j h,
       l,
       s .pre .0 .few-pings,
       s .pre .1 .0 .1 .1 .1,
@@ -91,35 +91,33 @@ returns-3 c =
     let a = s .args in
     let p = c .before .before .before .before .before .before .places-of in
     let j = c .before .before .join-row in
-    let k = e .before .before .before .before .kind-of .ensures in
-    let y = e .before .source-row in
-    part-join (a .grows) (a .s .now) (a .w) (a .h) (a .o) (a .words .now) (a .k) (a .v .0) (a .row .0)
-    (y .result) (a .t .now) (s .pre .0 .few-pings) (s .pre .1 .0 .1 .0) (omega arith) (s .pre .1 .0 .1 .1 .0)
-    (s .pre .0 .few-wide) (s .pre .0 .column) (s .pre .1 .0 .0) (y .ensures)
-    (sym (kind-is (a .o) (a .words .now) (a .row .0) _ _ _ (word-is e) (e .before .before .before .before
+    let k = e .before .kind-of .ensures in
+    let y = seen e .before .source-row in
+    bytes-join (a .grows) (a .s .now) (a .w) (a .h) (a .o) (a .words .now) (a .k) (a .v .0) (a .row .0)
+    (y .result) (a .t .now) (s .pre .1 .0 .1 .0) (omega (arith, seen e .if1 .left)) (s .pre .1 .0 .1 .1 .0)
+    (s .pre .0 .few-wide) (s .pre .0 .column) (s .pre .1 .0 .0) (s .pre .0 .source) (y .ensures)
+    (sym (kind-is (a .o) (a .words .now) (a .row .0) _ _ _ (word-is e) (e .before
     .before .level-of .ensures) k)
-    ∙ e .before .before .before .if1 .left)
-    ((a .w + 202) / 64) (p .result) _ (a .b .now) (p .last .0) (rowIn (a .w) (a .s .now) (a .v .0))
-    (j .last .1 .0) (omega arith) (row-at (a .s .now) (a .w) (a .v .0))
-    (row-long (a .s .now) (a .w) (a .h) (a .v .0) (s .pre .1 .0 .1 .0) (s .pre .0 .source))
+    ∙ e .if2 .left)
+    ((a .w + 202) / 64) (p .result) _ (a .b .now) (p .last .0) (j .last .1 .0) (omega arith)
     (s .pre .1 .1 .0) (word-is e)
     (subst (λ i. Strokes (a .grows) (bitAnd (getD (a .words .now) (a .row .0) 0)
-    (e .before .before .before .before .before .before .run-word .result)) (a .o .origin .ping .0) i
+    (e .before .before .before .run-word .result)) (a .o .origin .ping .0) i
     (p .result) (p .last .0))
-    (sym k ∙ e .before .before .before .if1 .left) (p .ensures))
+    (sym k ∙ e .if2 .left) (p .ensures .0))
     (j .ensures) (s .pre .1 .1 .1)
 
 pub add-row-spec : {M : Type 1} → statement M
 add-row-spec =
     tie.close
     (tie.spec
-    (λ c. search needs)
-    (λ c. search needs)
-    (λ c. search needs)
-    (λ c κs. search needs)
-    (λ c κs. search needs)
     (λ c κs. search needs)
     returns
+    (λ c. search needs)
+    (λ c. search needs)
+    (λ c. search needs)
+    (λ c κs. search needs)
+    (λ c κs. search needs)
     (λ c κs. search needs)
     returns-2
     (λ c. search needs)

@@ -1,6 +1,6 @@
 -- By the kind, which is 0 or 1:
 -- the rooms of single cells, or those of runs.
-use Rattle.bysource.specs.Steps.Shown.{Rooms}
+use Rattle.bysource.specs.Steps.Filled.{ByteRooms}
 use Prim.Native.Nat.{ℕ, _-_, _<_}
 use mathlib.Core.Path.{_≡_, sym, subst}
 use native.Mathlib.Omega.{arith}
@@ -11,7 +11,7 @@ use Rattle.bysource.proofs.fill_rooms.Tie as tie
 returns : tie.Need-returns
 returns c =
     let a = c .before .before .before .before .before .before .before .args in
-    subst (λ k. Rooms (a .grows) k (a .s .now) (a .n) (c .before .before .fill-cells .last .1 .0))
+    subst (λ k. ByteRooms (a .grows) k (a .s .now) (a .n) (c .before .before .fill-cells .last .1 .0))
     (sym (c .before .before .before .before .if1 .taken)) (c .before .before .fill-cells .ensures)
 
 returns-2 : tie.Need-returns-2
@@ -19,7 +19,7 @@ returns-2 c =
     let s = c .before .before .before .before .before .before .before in
     let a = s .args in
     let e : 1 ≡ a .k = omega (arith, s .pre .1 .0) in
-    subst (λ k. Rooms (a .grows) k (a .s .now) (a .n) (c .before .before .fill-runs .last .1 .0))
+    subst (λ k. ByteRooms (a .grows) k (a .s .now) (a .n) (c .before .before .fill-runs .last .1 .0))
     e (c .before .before .fill-runs .ensures)
 
 pub fill-rooms-spec : {M : Type 1} → statement M

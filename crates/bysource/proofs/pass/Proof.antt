@@ -1,10 +1,12 @@
 -- Invariant: the first v source rows are joined in, as far as rows of kind k see them. Falls: the rows left.
 -- After all of them the kind is done; where no row is of it, it was.
-use Rattle.bysource.proofs.Part.{part-kind, part-none}
-use Rattle.bysource.specs.Steps.Part.{Part}
+use Rattle.sourceparts.proofs.Part.{part-kind, part-none}
+use Rattle.strokes.proofs.RowKinds.{lacks-none}
+use Rattle.sourceparts.specs.Steps.Part.{PartOf}
+use Rattle.picture.specs.declared.Depth.the-variants.{EightBit}
 use lib.ListN.{length}
 use Prim.Native.Nat.{_-_, _≤_}
-use mathlib.Core.Path.{_≡_, refl, _∙_}
+use mathlib.Core.Path.{_≡_, refl, sym, _∙_}
 use native.Mathlib.Omega.{arith}
 use borrow.Author.Needs.{needs}
 use Rattle.bysource.proofs.pass.Statement.{statement}
@@ -12,7 +14,7 @@ use Rattle.bysource.proofs.pass.Tie as tie
 
 abbrev Inv-loop : tie.InvT-loop
 Inv-loop grows t₀ w h o words k s v₀ t v =
-    (v ≤ h) × (length t ≡ length t₀) × Part grows s w h o words k v 0 t
+    (v ≤ h) × (length t ≡ length t₀) × PartOf EightBit grows s w h o words k v 0 t
 
 abbrev μ-loop : tie.MeasureT-loop
 μ-loop grows t₀ w h o words k s v₀ t v = h - v
@@ -37,17 +39,18 @@ same-length c = c .before .loop .inv .1
 
 returns : tie.Need-returns Inv-loop μ-loop
 returns c =
-    let a = c .before .before .before .before .before .before .before .args in
-    let l = c .before .loop in
-    part-kind (a .grows) (a .s .now) (a .w) (a .h) (a .o) (a .words .now) (a .k) (l .v) (l .t) (omega arith)
-    (l .inv .2)
+    let s = c .before .before .before .before .before in
+    let a = s .args in
+    part-none (a .grows) _ _ (a .w) (a .h) (a .o) (a .words .now) (a .k) _
+    (lacks-none (a .o) (a .words .now) (a .k) (sym (c .before .lacks-kind .ensures) ∙ c .if1 .taken))
+    (s .pre .1 .1)
 
 returns-2 : tie.Need-returns-2 Inv-loop μ-loop
 returns-2 c =
-    let s = c .before .before .before .before .before in
-    let a = s .args in
-    part-none (a .grows) (a .s .now) (a .w) (a .h) (a .o) (a .words .now) (a .k) (a .t .now)
-    (c .before .has-kind .ensures (c .if1 .left)) (s .pre .1 .1)
+    let a = c .before .before .before .before .before .before .before .args in
+    let l = c .before .loop in
+    part-kind (a .grows) _ _ (a .w) (a .h) (a .o) (a .words .now) (a .k) (l .v) _ (omega arith)
+    (l .inv .2)
 
 pub pass-spec : {M : Type 1} → statement M
 pass-spec =
@@ -56,6 +59,7 @@ pass-spec =
     Inv-loop
     μ-loop
     (λ c κs. search needs)
+    returns
     loop-holds
     (λ c. search needs)
     source-row-requires
@@ -63,5 +67,4 @@ pass-spec =
     (λ c. search needs)
     loop-again
     same-length
-    returns
     returns-2)

@@ -1,6 +1,6 @@
 -- The rooms show source row v: `fill_rooms`.
 -- From there the rows of the element are joined in: `spread`.
-use Rattle.bysource.specs.Steps.Shown.{Rooms}
+use Rattle.bysource.specs.Steps.Filled.{ByteRooms}
 use Rattle.basics.proofs.Lists.{part-length}
 use Rattle.picture.proofs.Sizes.{row-room}
 use lib.ListN.{length, replicate, take, drop}
@@ -39,7 +39,8 @@ spread-requires c κs =
       (
         (s .pre .1 .0 .0, (s .pre .1 .0 .1 .0, l)),
         (
-          subst (λ n. Rooms (a .grows) (a .k) (take n (drop (a .v .0 * a .w) (a .s .now))) ((a .w + 202) / 64)
+          subst (λ n. ByteRooms (a .grows) (a .k) (take n (drop (a .v .0 * a .w) (a .s .now)))
+              ((a .w + 202) / 64)
               (f .last .1 .0)) (add-sub-cancel-left (a .v .0 * a .w) (a .w)) (f .ensures),
           s .pre .1 .1,
         ),

@@ -1,7 +1,8 @@
 -- Invariant: the first r rows of the element, where they are of kind k, are joined in from source row v.
 -- What falls: the rows left. After all of them the source row is done: `part-source`.
-use Rattle.bysource.proofs.Part.{part-source}
-use Rattle.bysource.specs.Steps.Part.{Part}
+use Rattle.sourceparts.proofs.Part.{part-source}
+use Rattle.sourceparts.specs.Steps.Part.{PartOf}
+use Rattle.picture.specs.declared.Depth.the-variants.{EightBit}
 use lib.ListN.{length}
 use Prim.Native.Nat.{_-_, _≤_}
 use mathlib.Core.Path.{_≡_, refl, _∙_}
@@ -12,7 +13,7 @@ use Rattle.bysource.proofs.spread.Tie as tie
 
 abbrev Inv-loop : tie.InvT-loop
 Inv-loop grows t₀ w h b v o words k s r₀ t r =
-    (r ≤ o .h) × (length t ≡ length t₀) × Part grows s w h o words k (v .0) r t
+    (r ≤ o .h) × (length t ≡ length t₀) × PartOf EightBit grows s w h o words k (v .0) r t
 
 abbrev μ-loop : tie.MeasureT-loop
 μ-loop grows t₀ w h b v o words k s r₀ t r = o .h - r
@@ -41,7 +42,7 @@ returns : tie.Need-returns Inv-loop μ-loop
 returns c =
     let a = c .before .before .before .before .before .before .before .args in
     let l = c .before .before .loop in
-    part-source (a .grows) (a .s .now) (a .w) (a .h) (a .o) (a .words .now) (a .k) (a .v .0) (l .r) (l .t)
+    part-source (a .grows) _ _ (a .w) (a .h) (a .o) (a .words .now) (a .k) (a .v .0) (l .r) _
     (omega arith) (l .inv .2)
 
 pub spread-spec : {M : Type 1} → statement M

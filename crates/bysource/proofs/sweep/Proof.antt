@@ -1,6 +1,6 @@
 -- The picture takes the first bytes of the target:
 -- what lies past them stays.
-use Rattle.bysource.proofs.Whole.{over-first}
+use Rattle.bysource.proofs.Joined.{over-first}
 use lib.ListN.{length}
 use lib.Seq.{length-take-le}
 use Prim.Native.Nat.{_-_, _*_}

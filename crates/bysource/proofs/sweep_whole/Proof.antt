@@ -1,7 +1,6 @@
 -- It starts from 0 or 255 alone; then come the rows of single cells, and the runs.
--- What is then done is all: `part-all`.
-use Rattle.bysource.proofs.Part.{part-start}
-use Rattle.bysource.proofs.Whole.{part-all}
+-- What is then done is all: `bytes-all`.
+use Rattle.bysource.proofs.Joined.{bytes-start, bytes-all}
 use lib.ListN.{length}
 use Prim.Native.Nat.{ℕ, _-_, _*_, _<_}
 use mathlib.Core.Path.{_≡_, sym, _∙_}
@@ -18,7 +17,7 @@ pass-requires c κs =
       s .pre .0,
       (
         (g .kept .1 .1 .0 ∙ s .pre .1, omega arith),
-        part-start (a .grows) (a .s .now) (a .w) (a .h) (a .o) (a .words .now) _ _ (s .pre .1) (g .ensures),
+        bytes-start (a .grows) (a .s .now) (a .w) (a .h) (a .o) (a .words .now) _ _ (s .pre .1) (g .ensures),
       ),
     )
 
@@ -38,7 +37,7 @@ returns c =
     let g = c .before .before .before .before .before .before .before .before .before .before .begin in
     let p = c .before .before .before .before .before .before .pass in
     let q = c .before .before .pass2 in
-    part-all (a .grows) (a .s .now) (a .w) (a .h) (a .o) (a .words .now) (q .last .1 .0)
+    bytes-all (a .grows) (a .s .now) (a .w) (a .h) (a .o) (a .words .now) (q .last .1 .0)
     (λ i. let f = c .before .before .before .before .before .before .before .before .before .before
     .before .before .before .before .shared-slice-known .given i in omega arith)
     (λ i. let f = c .slice-known4 .given i in omega arith) (q .ensures) (s .pre .0 .some-pings)

@@ -1,6 +1,7 @@
 -- Invariant: the first k blocks are joined, and t is as it was from there on. What falls: the blocks left.
 -- Each block is read before it is written.
-use Rattle.rooms.proofs.Blocks.{rowAt, blocks-none, blocks-more}
+use Rattle.rooms.proofs.Row.{rowAt, blocks-none, blocks-more}
+use Rattle.rooms.proofs.Blocks.{atAll}
 use Rattle.blocks.specs.Steps.Laid.{laid}
 use lib.ListN.{length}
 use Prim.Native.Nat.{_-_, _*_, _≤_}
@@ -12,13 +13,15 @@ use Rattle.rooms.proofs.join_blocks.Tie as tie
 
 abbrev Inv-loop : tie.InvT-loop
 Inv-loop grows t₀ n b at k₀ t k =
-    (k ≤ n) × (length t ≡ length t₀) × (t ≡ laid 0 (64 * k) (rowAt grows b at t₀) t₀)
+    (k ≤ n) × (length t ≡ length t₀) × (t ≡ laid 0 (64 * k) (rowAt (atAll grows b at) t₀) t₀)
 
 abbrev μ-loop : tie.MeasureT-loop
 μ-loop grows t₀ n b at k₀ t k = n - k
 
 loop-holds : tie.Need-loop-holds Inv-loop μ-loop
-loop-holds c = (search needs, search needs, blocks-none _ _ _ _)
+loop-holds c =
+    let a = c .before .before .before .args in
+    (search needs, search needs, blocks-none (atAll (a .grows) (a .b .now) (a .at .now)) (a .t .now))
 
 join-places-requires : tie.Need-join-places-requires Inv-loop μ-loop
 join-places-requires c κs =
@@ -34,7 +37,7 @@ loop-again c =
     let p = c .before .before .put-block in (
       search needs,
       p .kept .0 ∙ l .inv .1,
-      blocks-more (a .grows) (a .b .now) (a .at .now) (a .t .now) (l .t) _ _ (p .last .0) (l .k)
+      blocks-more (atAll (a .grows) (a .b .now) (a .at .now)) (a .t .now) (l .t) _ _ (p .last .0) (l .k)
           (omega arith) (l .inv .2) (c .before .before .before .before .before .block-at .ensures)
           (c .before .before .before .before .join-places .ensures) (p .ensures),
     )
@@ -47,7 +50,7 @@ returns c =
     let a = c .before .before .before .before .before .args in
     let e : c .before .loop .k ≡ a .n = omega arith in
     c .before .loop .inv .2
-    ∙ ap (λ k. laid 0 (64 * k) (rowAt (a .grows) (a .b .now) (a .at .now) (a .t .now)) (a .t .now)) e
+    ∙ ap (λ k. laid 0 (64 * k) (rowAt (atAll (a .grows) (a .b .now) (a .at .now)) (a .t .now)) (a .t .now)) e
 
 pub join-blocks-spec : {M : Type 1} → statement M
 join-blocks-spec =

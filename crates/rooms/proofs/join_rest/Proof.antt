@@ -1,6 +1,7 @@
 -- The bytes that are left, as the first of a block: `rest-joined`.
 -- Where none is left, the row stays.
-use Rattle.rooms.proofs.Blocks.{rowAt, rest-joined}
+use Rattle.rooms.proofs.Row.{rowAt, rest-joined}
+use Rattle.rooms.proofs.Blocks.{atAll}
 use Rattle.blocks.specs.Steps.Laid.{laid}
 use Rattle.blocks.proofs.Laid.{laid-none}
 use lib.ListN.{length}
@@ -14,7 +15,7 @@ use Rattle.rooms.proofs.join_rest.Tie as tie
 returns : tie.Need-returns
 returns c =
     let a = c .before .before .before .before .args in
-    let f : ℕ → ℕ = λ m. rowAt (a .grows) (a .b .now) (a .at .now) (a .t .now) (a .i + m) in
+    let f : ℕ → ℕ = λ m. rowAt (atAll (a .grows) (a .b .now) (a .at .now)) (a .t .now) (a .i + m) in
     let e : length (a .t .now) - a .i ≡ 0 = omega arith in
     laid-none (a .i) f (a .t .now) ∙ ap (λ n. laid (a .i) n f (a .t .now)) (sym e)
 
@@ -24,7 +25,8 @@ join-places-requires c κs = c .before .before .before .before .before .before .
 returns-2 : tie.Need-returns-2
 returns-2 c =
     let a = c .before .before .before .before .before .before .before .before .before .before .before .args in
-    rest-joined (a .grows) (a .b .now) (a .at .now) (a .t .now) _ _ _ (a .i) _ (omega arith) (omega arith)
+    rest-joined (atAll (a .grows) (a .b .now) (a .at .now)) (a .t .now) _ _ _ (a .i) _ (omega arith)
+    (omega arith)
     (c .before .before .before .before .before .some-at .ensures)
     (c .before .before .before .before .join-places .ensures) (c .before .before .put-some .ensures)
 

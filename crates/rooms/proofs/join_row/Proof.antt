@@ -1,6 +1,8 @@
 -- The blocks of the row, and then the bytes that are left:
 -- `row-joined` puts them together.
-use Rattle.rooms.proofs.Blocks.{row-joined}
+use Rattle.rooms.proofs.Row.{row-joined}
+use Rattle.rooms.proofs.Blocks.{atAll}
+use Rattle.rooms.specs.Steps.Joined.{joinedRow}
 use lib.ListN.{length}
 use Prim.Native.Nat.{_+_, _-_, _*_, _/_, _≤_}
 use mathlib.Core.Path.{_≡_}
@@ -20,9 +22,10 @@ join-rest-requires c κs =
     ((omega (arith, k), omega (arith, k)), λ l j h. omega (arith, k, s .pre j h))
 
 returns : tie.Need-returns
+unfolding joinedRow
 returns c =
     let a = c .before .before .before .before .before .before .before .before .before .before .before .args in
-    row-joined (a .grows) (a .b .now) (a .at .now) (a .t .now) _ _ _ (omega arith)
+    row-joined (atAll (a .grows) (a .b .now) (a .at .now)) (a .t .now) _ _ _ (omega arith)
     (c .before .before .before .before .before .before .join-blocks .ensures)
     (c .before .before .join-rest .ensures)
 

@@ -1,0 +1,2 @@
+-- How the work goes: rooms of packed points.
+pub mod Filled

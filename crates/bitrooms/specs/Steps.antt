@@ -1,0 +1,2 @@
+-- How the work goes: windows of packed points in two rooms.
+pub mod Widened

@@ -1,0 +1,4 @@
+pub mod Shown
+pub mod Part
+pub mod Whole
+pub mod Bytes

@@ -1,0 +1,4 @@
+pub mod Strokes
+pub mod Places
+pub mod RowKinds
+pub mod Settled
