@@ -1,0 +1,4 @@
+pub mod Spots
+pub mod Points
+pub mod Made
+pub mod Settled

@@ -1,0 +1,2 @@
+-- How the work goes: the set cells as a list of places.
+pub mod Listed

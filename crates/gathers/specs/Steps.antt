@@ -1,0 +1,2 @@
+-- How the work goes: what stands at several places, joined.
+pub mod Gathered

@@ -1,0 +1,5 @@
+pub mod Strips
+pub mod Cells
+pub mod Rows
+pub mod Swept
+pub mod Settled

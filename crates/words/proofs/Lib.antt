@@ -1,0 +1,3 @@
+pub mod Points
+pub mod Next
+pub mod Settled

@@ -1,0 +1,2 @@
+-- How the work goes: points in words.
+pub mod Words
