@@ -1,0 +1,4 @@
+pub mod Lift
+pub mod Cells
+pub mod Line
+pub mod Settled

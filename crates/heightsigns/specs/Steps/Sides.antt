@@ -1,0 +1,17 @@
+-- A height taken apart: whether it raises, and its size; and what holds a value at the end.
+use Prim.Native.Nat.{ℕ, _-_}
+use mathlib.Core.Bool.{Bool, true, false, cond, not}
+use lib.Dec.{eqb, ltb}
+
+abbrev pub risesOf : ℕ → Bool
+risesOf g = cond (eqb g 0) false (ltb g 128)
+
+abbrev pub sideOf : Bool → ℕ → Bool
+sideOf rises g = cond rises (risesOf g) (not (risesOf g))
+
+abbrev pub sizeOf : ℕ → ℕ
+sizeOf g = cond (ltb g 128) g (256 - g)
+
+abbrev pub endOf : Bool → ℕ → ℕ
+endOf true v = cond (eqb v 0) 0 255
+endOf false v = cond (eqb v 255) 255 0

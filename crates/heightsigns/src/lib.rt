@@ -1,0 +1,125 @@
+// The cells of one row of a weighted element, those that raise apart from those that do not,
+// and a row of values between what counts beyond the frame, with what holds its ends.
+use element::RowWord;
+use picture::Ping;
+ghost use mathlib.Core.Path.{_≡_};
+ghost use mathlib.Core.Bool.{cond};
+ghost use Prim.Native.Nat.{_+_, _*_, _≤_, _<_};
+ghost use lib.ListN.{length, getD};
+ghost use Rattle.basics.specs.Lists.{firsts};
+ghost use Rattle.element.specs.Descriptor.{mostCells};
+ghost use Rattle.heightsigns.specs.Steps.Sides.{risesOf, sideOf, sizeOf, endOf};
+ghost use Rattle.heightsigns.specs.Steps.Taken.{takenOf, countOf, cellsOf};
+
+// A height is a byte: 1 to 127 raise, 0 changes nothing, 129 to 255 stand for -127 to -1.
+fn is_rising(g: u8) -> bool
+    ensures { λ r. ⌜ r ≡ risesOf g ⌝ }
+{
+    if g == 0 {
+        return false;
+    }
+    g < element::SIGN_BIT
+}
+
+fn on_side(rises: bool, g: u8) -> bool
+    ensures { λ r. ⌜ r ≡ sideOf rises g ⌝ }
+{
+    if rises {
+        return is_rising(g);
+    }
+    !is_rising(g)
+}
+
+// How far a height is from 0.
+fn size_of(g: u8) -> u8
+    ensures { λ r. ⌜ (r ≡ sizeOf g) × (r ≤ 128) ⌝ }
+{
+    if g < element::SIGN_BIT {
+        g
+    } else {
+        255 - g + 1
+    }
+}
+
+// The byte at i, or 0, a flat element's height, where there is none.
+fn height_at(heights: &[u8], i: usize) -> u8
+    ensures { λ r. ⌜ r ≡ getD (now (heights .entry)) i 0 ⌝ }
+{
+    if i < heights.len() { heights[i] } else { 0 }
+}
+
+// 1 where the cell is set and its height is of the side that is asked for.
+fn takes(word: RowWord, column: Ping, rises: bool, g: u8) -> usize
+    requires { ⌜ column .0 < mostCells ⌝ }
+    ensures { λ r. ⌜ r ≡ cond (takenOf word (column .0) rises g) 1 0 ⌝ }
+{
+    if element::cell(word, column) {
+        if on_side(rises, g) {
+            return 1;
+        }
+    }
+    0
+}
+
+// A cell as one number: the size of its height, and 256 times its place.
+fn entry(place: usize, size: u8) -> u16
+    requires { ⌜ (place < 128) × (size ≤ 128) ⌝ }
+    ensures { λ r. ⌜ r ≡ 256 * place + size ⌝ }
+{
+    256 * (place as u16) + (size as u16)
+}
+
+// The set cells of a row word whose heights, which stand from the place `first` on, are of one side;
+// it gives how many they are. Each number is stored, and counted only where its cell is taken.
+pub fn cells_of(
+    cells: &mut [u16],
+    grows: bool,
+    rises: bool,
+    word: RowWord,
+    wide: usize,
+    o: usize,
+    heights: &[u8],
+    first: usize,
+) -> usize
+    requires { ⌜ (o < mostCells) × ((wide ≤ mostCells) × (first ≤ mostCells * mostCells)) ⌝ }
+    requires { ⌜ length (now cells) ≡ mostCells ⌝ }
+    ensures count { λ r. ⌜ r ≡ countOf rises word (now (heights .entry)) first wide ⌝ }
+    ensures numbers { λ _. ⌜ now (cells .exit)
+        ≡ cellsOf grows rises word o (now (heights .entry)) first (now (cells .entry)) wide ⌝ }
+{
+    let mut n = 0;
+    let mut c = 0;
+    while c < wide {
+        let g = height_at(heights, first + c);
+        cells[n] = entry(packedline::cell_place(grows, o, c), size_of(g));
+        n += takes(word, Ping(c as u16), rises, g);
+        c += 1;
+    }
+    n
+}
+
+// What holds a value at the end: 0 stays 0 in a dilation, 255 stays 255 in an erosion.
+fn end_of(grows: bool, v: u8) -> u8
+    ensures { λ r. ⌜ r ≡ endOf grows v ⌝ }
+{
+    if grows {
+        if v == 0 {
+            return 0;
+        }
+        return 255;
+    }
+    if v == 255 { 255 } else { 0 }
+}
+
+// The same of each value of b.
+pub fn ends_of(grows: bool, e: &mut [u8], b: &[u8])
+    requires { ⌜ length (now e) ≤ length (now b) ⌝ }
+    ensures { λ _. ⌜ now (e .exit)
+        ≡ firsts (λ i. endOf grows (getD (now (b .entry)) i 0)) (length (now (e .entry))) ⌝ }
+{
+    let mut i = 0;
+    while i < e.len() {
+        e[i] = end_of(grows, b[i]);
+        i += 1;
+    }
+}
