@@ -1,4 +1,2 @@
 pub mod Numbers
-pub mod Extents
-pub mod Hulls
 pub mod Settled

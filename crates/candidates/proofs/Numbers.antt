@@ -8,10 +8,9 @@ use borrow.Author.Tests.{lt-ltb, le-ltb, le-leb, lt-leb, eq-eqb, ne-eqb}
 use lib.Bits.{bitAnd}
 use lib.Dec.{leb, ltb, eqb}
 use lib.ListN.{getD}
-use Rattle.candidates.specs.declared.Hull.{Hull}
-use Rattle.candidates.specs.declared.Side.{Side}
+use Rattle.hulls.specs.declared.Hull.{Hull}
+use Rattle.hulls.specs.declared.Side.{Side}
 use Rattle.candidates.specs.declared.Try.{Try}
-use Rattle.candidates.specs.Hull.{sideOf}
 use Rattle.candidates.specs.Candidates.{tryNo, part, needed, linksOf, runByte, heads, tails}
 use Rattle.candidates.specs.Candidates.{rowWith, rowByte, linkByte}
 
@@ -81,17 +80,6 @@ unfolding tryNo
 try-other t s k a b e f =
     let h : tryNo t ≡ the (7 - (t - 2) / 7) (7 - (t - 2) % 7) = simp (ne-eqb t 0 a, ne-eqb t 1 b) in
     h ∙ ap₂ the (sym e) (sym f)
-
-pub side-is : (o f l s m a b c d : ℕ) → s ≡ min o f → m ≡ max o l → a ≡ o - s → b ≡ f - s → c ≡ l - s
-    → d ≡ m - s → record { origin = a; first = b; last = c; span = d } ≡ sideOf o f l
-unfolding sideOf
-side-is o f l s m a b c d e g p q r v =
-    λ i. record {
-      origin = (p ∙ ap (λ z. o - z) e) i;
-      first = (q ∙ ap (λ z. f - z) e) i;
-      last = (r ∙ ap (λ z. l - z) e) i;
-      span = (v ∙ ap₂ (λ y z. y - z) g e) i;
-    }
 
 -- ---- a row of a link
 module _ (u l f t nw ne sw se r : ℕ) where

@@ -2,8 +2,6 @@
 -- for each public function, of its contract itself, as the prover reads it.
 use Rattle.basics.specs.Settles.{Settles, SettlesBytes}
 use Rattle.basics.proofs.Settled.{settled}
-use Rattle.candidates.proofs.hull_of.Kinds as hull-of-kinds
-use Rattle.candidates.proofs.hull_of.Reads as hull-of
 use Rattle.candidates.proofs.try_no.Kinds as try-no-kinds
 use Rattle.candidates.proofs.try_no.Reads as try-no
 use Rattle.candidates.proofs.links_of.Kinds as links-of-kinds
@@ -12,9 +10,6 @@ use Rattle.candidates.proofs.length_of.Kinds as length-of-kinds
 use Rattle.candidates.proofs.length_of.Reads as length-of
 use Rattle.candidates.proofs.put_links.Kinds as put-links-kinds
 use Rattle.candidates.proofs.put_links.Reads as put-links
-
-pub hull-of-settled : Settles 0 hull-of-kinds.ps hull-of-kinds.r hull-of.Learnt
-hull-of-settled κs a x y s t p q = settled p q
 
 pub try-no-settled : Settles 0 try-no-kinds.ps try-no-kinds.r try-no.Learnt
 try-no-settled κs a x y s t p q = settled (p .0) (q .0)

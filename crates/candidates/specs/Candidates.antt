@@ -7,7 +7,7 @@ use lib.Dec.{leb, ltb, eqb}
 use lib.ListN.{getD}
 use Rattle.basics.specs.Lists.{firsts, joined}
 use Rattle.morphology.specs.Chain.{mostLinks}
-use Rattle.candidates.specs.declared.Hull.{Hull}
+use Rattle.hulls.specs.declared.Hull.{Hull}
 use Rattle.candidates.specs.declared.Try.{Try}
 
 -- a try takes at most 7 of anything for a link

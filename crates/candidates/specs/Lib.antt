@@ -1,3 +1,1 @@
-pub mod Extent
-pub mod Hull
 pub mod Candidates

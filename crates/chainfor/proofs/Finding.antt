@@ -12,26 +12,25 @@ use Rattle.answer.specs.Answer.{told, plain, isDone}
 use Rattle.answer.specs.Lent.{unlessRefused}
 use Rattle.answer.proofs.Lent.{not-done, all-done}
 use Rattle.element.specs.declared.Element.{Element}
-use Rattle.element.specs.Descriptor.{wellMade}
+use Rattle.element.specs.Descriptor.{wellMade, originColumnOf, originRowOf}
 use Rattle.element.specs.Record.{elementOf}
-use Rattle.candidates.specs.declared.Hull.{Hull}
+use Rattle.hulls.specs.declared.Hull.{Hull}
 use Rattle.candidates.specs.declared.Try.{Try}
 use Rattle.chainfor.specs.declared.Found.{Found}
-use Rattle.candidates.specs.Hull.{hullIn, hullOf}
+use Rattle.hulls.specs.Hull.{hullIn, hullOf, rowsIn}
+use Rattle.hulls.proofs.Hulls.{rows-in}
 use Rattle.candidates.specs.Candidates.{tryNo, needed, linksOf, lengthOf, linkByte, chainBy}
-use Rattle.chainfor.specs.Find.{tries, accepts, leastFrom, firstTry, within, isFound, chainFor}
-use Rattle.chainfor.specs.Find.{linksFor, findTests, findAnswer, gaveUp, FoundAs, chainLeft}
+use Rattle.dividing.specs.Least.{leastFrom}
+use Rattle.dividing.proofs.Least.{least-few, cond-yes, cond-no}
+use Rattle.takeapart.specs.declared.Way.{Way}
+use Rattle.takeapart.specs.Sum.{walked}
+use Rattle.chainfor.specs.Find.{tries, accepts, firstTry, isTried, sumWay, sumLinks, sumChain, sums}
+use Rattle.chainfor.specs.Find.{isSearched, within, isFound, chainFor, linksFor, findTests, findAnswer}
+use Rattle.chainfor.specs.Find.{gaveUp, FoundAs, chainLeft}
+use Rattle.chainfor.specs.Steps.Summed.{sumAnswer, SumAs, sumLeft}
+use Rattle.chainfor.proofs.Sums.{sum-few, sum-short}
 use Rattle.basics.specs.Lists.{firsts, joined}
 use Rattle.chainfor.proofs.Search.{sixty, chain-is, chain-length}
-
-pub least-few : (p : ℕ → Bool) (n i : ℕ) → leastFrom p i n ≤ i + n
-unfolding leastFrom
-least-few p zero i = omega arith
-least-few p (suc n) i = by (p i) (least-few p n (suc i))
-  where
-    by : (b : Bool) → leastFrom p (suc i) n ≤ suc i + n → cond b i (leastFrom p (suc i) n) ≤ i + suc n
-    by true h = omega arith
-    by false h = omega (arith, h)
 
 -- ---- the answer, by what was found
 module _ (d : List ℕ) (room : ℕ) where
@@ -58,54 +57,50 @@ module _ (d : List ℕ) (room : ℕ) where
   unmade-tried e = simp e
 
 -- ---- what was found, by the search
+none : (b : Bool) → (b && false) ≡ false
+none true = refl
+none false = refl
+
 module _ (d : List ℕ) (H : Hull) (eh : H ≡ hullIn d) where
-  far : (b : Bool) → within H ≡ b → within (hullIn d) ≡ b
+  pub far : (b : Bool) → within H ≡ b → within (hullIn d) ≡ b
   far b e = sym (ap within eh) ∙ e
 
   pub far-within : within H ≡ false → (isFound d ≡ false) × (false ≡ gaveUp d)
   unfolding isFound gaveUp
   far-within e = (
-    ap (λ b. b && ltb (firstTry d (hullIn d)) tries) (far false e),
-    sym (ap (λ b. wellMade d && (b && not (ltb (firstTry d (hullIn d)) tries))) (far false e)
-        ∙ none (wellMade d)),
+    ap (λ b. b && isSearched d) (far false e),
+    sym (ap (λ b. wellMade d && (b && not (isSearched d))) (far false e) ∙ none (wellMade d)),
   )
-    where
-      none : (b : Bool) → (b && false) ≡ false
-      none true = refl
-      none false = refl
 
-  tried : (b : Bool) → ltb (firstTry d H) tries ≡ b → ltb (firstTry d (hullIn d)) tries ≡ b
-  tried b e = sym (ap (λ (h : Hull). ltb (firstTry d h) tries) eh) ∙ e
+  pub tried-none : firstTry d H ≡ tries → isTried d ≡ false
+  unfolding isTried
+  tried-none t =
+      sym (ap (λ (h : Hull). ltb (firstTry d h) tries) eh)
+      ∙ le-ltb (firstTry d H) tries (omega (arith, t))
 
-  pub near-none : wellMade d ≡ true → within H ≡ true → firstTry d H ≡ tries
-      → (isFound d ≡ false) × (true ≡ gaveUp d)
-  unfolding isFound gaveUp
-  near-none m e t =
-      let f = tried false (le-ltb (firstTry d H) tries (omega (arith, t))) in (
-        ap₂ (λ a b. a && b) (far true e) f,
-        sym (ap₂ (λ a b. a && b) m (ap₂ (λ a b. a && not b)
-            (far true e) f)),
-      )
+  pub tried-some : (firstTry d H ≡ tries → ⊥) → isTried d ≡ true
+  unfolding isTried firstTry
+  tried-some t =
+      sym (ap (λ (h : Hull). ltb (leastFrom (accepts d h) 0 tries) tries) eh)
+      ∙ lt-ltb (leastFrom (accepts d H) 0 tries) tries
+      (omega (arith, least-few (accepts d H) tries 0, t))
 
   pub near-found : within H ≡ true → (firstTry d H ≡ tries → ⊥) → (isFound d ≡ true) × (false ≡ gaveUp d)
-  unfolding isFound gaveUp firstTry
+  unfolding isFound gaveUp isSearched
   near-found e t =
-      let f = tried true (lt-ltb (firstTry d H) tries
-      (omega (arith, least-few (accepts d H) tries 0, t))) in (
+      let f = ap (λ b. cond b true (sums d (sumWay d))) (tried-some t) in (
         ap₂ (λ a b. a && b) (far true e) f,
         sym (ap₂ (λ a b. wellMade d && (a && not b)) (far true e) f ∙ none (wellMade d)),
       )
-    where
-      none : (b : Bool) → (b && false) ≡ false
-      none true = refl
-      none false = refl
 
   -- the chain that is written
-  module _ (t : ℕ) (c : Try) (et : t ≡ firstTry d H) (ec : c ≡ tryNo t) where
+  module _ (t : ℕ) (c : Try) (et : t ≡ firstTry d H) (ec : c ≡ tryNo t)
+      (some : firstTry d H ≡ tries → ⊥) where
     pub links-found : (k : ℕ) → k ≡ linksOf H c → k ≡ linksFor d
     unfolding linksFor
-    links-found k e = e ∙ ap₂ (λ (h : Hull) (x : Try). linksOf h x) eh
-        (ec ∙ ap tryNo (et ∙ ap (firstTry d) eh))
+    links-found k e =
+        e ∙ ap₂ (λ (h : Hull) (x : Try). linksOf h x) eh (ec ∙ ap tryNo (et ∙ ap (firstTry d) eh))
+        ∙ sym (cond-yes (isTried d) _ (sumLinks (sumWay d)) (tried-some some))
 
     pub chain-found : (k m : ℕ) → k ≡ linksOf H c → m ≡ lengthOf H c
         → joined (λ i. firsts (linkByte H c i) m) k ≡ chainFor d
@@ -113,6 +108,7 @@ module _ (d : List ℕ) (H : Hull) (eh : H ≡ hullIn d) where
     chain-found k m ek em =
         chain-is H c k m ek em ∙ ap₂ (λ (h : Hull) (x : Try). chainBy h x) eh (ec ∙ ap tryNo (et
         ∙ ap (firstTry d) eh))
+        ∙ sym (cond-yes (isTried d) _ (sumChain (sumWay d)) (tried-some some))
 
     pub length-found : (k m : ℕ) → k ≡ linksOf H c → m ≡ lengthOf H c → k * m ≡ length (chainFor d)
     length-found k m ek em =
@@ -202,12 +198,17 @@ unfolding linksFor chainFor lengthOf
 chain-few d =
     let H = hullIn d in
     let c = tryNo (firstTry d H) in
-    let s = side-few (firstTry d H) in (
-      links-few H c,
-      subst (λ n. n ≤ 60) (sym (chain-length H c))
-          (sixty (linksOf H c) (4 + (min (c .side) (H .down .span) + 1)) (links-few H c) (omega
-          (arith, s))),
-    )
+    let s = side-few (firstTry d H) in
+    let W = sumWay d in
+    by (isTried d) (linksOf H c) (sumLinks W) (chainBy H c) (sumChain W) (links-few H c) (sum-few W)
+    (subst (λ n. n ≤ 60) (sym (chain-length H c))
+    (sixty (linksOf H c) (4 + (min (c .side) (H .down .span) + 1)) (links-few H c) (omega (arith, s))))
+    (sum-short W)
+  where
+    by : (b : Bool) (k l : ℕ) (x y : List ℕ) → k ≤ 5 → l ≤ 5 → length x ≤ 60 → length y ≤ 60
+        → (cond b k l ≤ 5) × (length (cond b x y) ≤ 60)
+    by true k l x y p q u v = (p, u)
+    by false k l x y p q u v = (q, v)
 
 pub found-few : (d : List ℕ) (room : ℕ) (r : Found) → FoundAs d room r → (r .links ≤ 5) × (r .bytes ≤ 60)
 found-few d room r f =
@@ -219,3 +220,45 @@ found-few d room r f =
     held : (b : Bool) {n m : ℕ} → n ≤ m → cond b n 0 ≤ m
     held true h = h
     held false h = omega arith
+
+-- ---- a sum
+pub way-is : (d : List ℕ) (e : Element) → e ≡ elementOf d
+    → walked (e .rows) (e .outline .origin .ping .0) (e .outline .origin .bin .0) ≡ sumWay d
+unfolding sumWay elementOf
+way-is d e q =
+    ap (λ (x : Element). walked (x .rows) (x .outline .origin .ping .0) (x .outline .origin .bin .0)) q
+    ∙ ap (λ (r : List ℕ). walked r (originColumnOf d) (originRowOf d)) (rows-in d)
+
+module _ (d : List ℕ) (made : wellMade d ≡ true) (near : within (hullIn d) ≡ true)
+    (none : isTried d ≡ false) where
+  -- the answers are those of the sum
+  sum-answer : (room : ℕ) → sumAnswer d (sumWay d) room ≡ findAnswer d room
+  unfolding findAnswer findTests isFound isSearched chainFor sumAnswer
+  sum-answer room = sym (simp (made, near, none))
+
+  sum-tried : not (sums d (sumWay d)) ≡ gaveUp d
+  unfolding gaveUp isSearched
+  sum-tried = sym (simp (made, near, none))
+
+  links-sum : sumLinks (sumWay d) ≡ linksFor d
+  unfolding linksFor
+  links-sum = sym (cond-no (isTried d) _ (sumLinks (sumWay d)) none)
+
+  chain-sum : sumChain (sumWay d) ≡ chainFor d
+  unfolding chainFor
+  chain-sum = sym (cond-no (isTried d) _ (sumChain (sumWay d)) none)
+
+  pub summed-so : (t u : List ℕ) (w : Way) (r : Found) → w ≡ sumWay d → SumAs d w (length t) r
+      → u ≡ sumLeft d w t → FoundAs d (length t) r × (u ≡ chainLeft d t)
+  unfolding chainLeft sumLeft
+  summed-so t u w r e s v =
+      let a = ap (λ (x : Way). sumAnswer d x (length t)) e ∙ sum-answer (length t) in
+      let c = ap sumChain e ∙ chain-sum in (
+        record {
+          answered = s .answered ∙ a;
+          linked = s .linked ∙ ap₂ (λ x n. cond (isDone x) n 0) a (ap sumLinks e ∙ links-sum);
+          written = s .written ∙ ap₂ (λ x l. cond (isDone x) (length l) 0) a c;
+          tried = s .tried ∙ ap (λ (x : Way). not (sums d x)) e ∙ sum-tried;
+        },
+        v ∙ ap₂ (λ x l. unlessRefused x t (l ++ drop (length l) t)) a c,
+      )

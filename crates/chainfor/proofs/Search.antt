@@ -1,11 +1,10 @@
--- The search: a candidate as it is written and checked, and the first that is accepted.
+-- A candidate as it is written and checked.
 use Prim.Native.Nat.{ℕ, zero, suc, _+_, _-_, _*_, _≤_, _<_}
 use mathlib.Core.Path.{_≡_, refl, sym, ap, ap₂, _∙_}
 use mathlib.Core.Bool.{Bool, true, false, cond}
 use mathlib.Core.List.{List, _++_}
 use native.Mathlib.Omega.{arith}
-use native.Mathlib.Numerals.{add-one}
-use native.Mathlib.Nat.{mul-le-mul, not-suc-le-zero}
+use native.Mathlib.Nat.{mul-le-mul}
 use lib.ListN.{length, take}
 use lib.Seq.{take-at}
 use Rattle.answer.specs.declared.Told.{Told}
@@ -14,10 +13,10 @@ use Rattle.basics.specs.Lists.{firsts, joined}
 use Rattle.basics.proofs.Lists.{length-firsts}
 use Rattle.basics.proofs.Joined.{length-joined}
 use Rattle.chain.specs.Reading.{checked}
-use Rattle.candidates.specs.declared.Hull.{Hull}
+use Rattle.hulls.specs.declared.Hull.{Hull}
 use Rattle.candidates.specs.declared.Try.{Try}
 use Rattle.candidates.specs.Candidates.{tryNo, linksOf, lengthOf, linkByte, linkBytes, chainBy}
-use Rattle.chainfor.specs.Find.{accepts, leastFrom}
+use Rattle.chainfor.specs.Find.{accepts}
 
 -- five links of twelve bytes
 pub sixty : (k m : ℕ) → k ≤ 5 → m ≤ 12 → k * m ≤ 60
@@ -52,28 +51,3 @@ accepted-is d H t c k m n w rest said r ec ek em en ew es er =
     ∙ chain-is H c k m ek em)
     ∙ ap (λ j. isDone (checked d j (chainBy H c))) ek
     ∙ ap (λ (x : Try). isDone (checked d (linksOf H x) (chainBy H x))) ec
-
--- ---- the first that passes
-module _ (p : ℕ → Bool) where
-  pub least-here : (i n : ℕ) → 0 < n → p i ≡ true → leastFrom p i n ≡ i
-  unfolding leastFrom
-  least-here i zero h e = absurd (not-suc-le-zero h)
-  least-here i (suc n) h e = ap (λ b. cond b i (leastFrom p (suc i) n)) e
-
-  pub least-more : (i m : ℕ) → i < m → p i ≡ false
-      → leastFrom p i (m - i) ≡ leastFrom p (i + 1) (m - (i + 1))
-  unfolding leastFrom
-  least-more i m h e =
-      ap (leastFrom p i) (more i m h)
-      ∙ ap (λ b. cond b i (leastFrom p (suc i) (m - (i + 1)))) e
-      ∙ ap (λ j. leastFrom p j (m - (i + 1))) (sym (add-one i))
-    where
-      more : (i m : ℕ) → i < m → m - i ≡ suc (m - (i + 1))
-      more i m h = omega arith
-
-  pub least-end : (i m : ℕ) → i ≡ m → leastFrom p i (m - i) ≡ m
-  unfolding leastFrom
-  least-end i m e = ap₂ (leastFrom p) e (none i m e)
-    where
-      none : (i m : ℕ) → i ≡ m → m - i ≡ 0
-      none i m e = omega arith

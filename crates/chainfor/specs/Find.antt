@@ -1,20 +1,23 @@
--- A chain for an element: the first candidate that the check accepts, and the refusals.
-use Prim.Native.Nat.{ℕ, zero, suc, _-_, _*_}
+-- A chain for an element: the first candidate that the check accepts, or else a sum; and the refusals.
+use Prim.Native.Nat.{ℕ, _-_, _*_, min}
 use mathlib.Core.Path.{_≡_}
-use mathlib.Core.Bool.{Bool, cond, not, _&&_}
+use mathlib.Core.Bool.{Bool, true, cond, not, _&&_}
 use mathlib.Core.List.{List, [], _∷_, _++_}
 use lib.Dec.{leb, ltb}
-use lib.ListN.{length, drop}
+use lib.ListN.{length, take, drop}
 use Rattle.answer.specs.declared.Told.{Told}
 use Rattle.answer.specs.Answer.{told, plain, isDone}
 use Rattle.answer.specs.Refuse.{Test, refuse}
 use Rattle.answer.specs.Lent.{unlessRefused}
-use Rattle.element.specs.Descriptor.{wellMade}
+use Rattle.element.specs.Descriptor.{wellMade, originColumnOf, originRowOf}
 use Rattle.morphology.specs.Chain.{mostLinkCells, mostLinks}
 use Rattle.chain.specs.Reading.{checked}
-use Rattle.candidates.specs.declared.Hull.{Hull}
+use Rattle.hulls.specs.declared.Hull.{Hull}
+use Rattle.dividing.specs.Least.{leastFrom}
+use Rattle.takeapart.specs.declared.Way.{Way}
+use Rattle.takeapart.specs.Sum.{sumBytes, walked}
 use Rattle.chainfor.specs.declared.Found.{Found}
-use Rattle.candidates.specs.Hull.{hullIn}
+use Rattle.hulls.specs.Hull.{hullIn, rowsIn}
 use Rattle.candidates.specs.Candidates.{tryNo, linksOf, chainBy}
 
 -- how many candidates there are
@@ -24,11 +27,6 @@ tries = 51
 -- the check accepts candidate t
 unfoldable pub accepts : List ℕ → Hull → ℕ → Bool
 accepts d H t = isDone (checked d (linksOf H (tryNo t)) (chainBy H (tryNo t)))
-
--- the first of n numbers from i on that passes, or else the one after them
-unfoldable pub leastFrom : (ℕ → Bool) → ℕ → ℕ → ℕ
-leastFrom p i zero = i
-leastFrom p i (suc n) = cond (p i) i (leastFrom p (suc i) n)
 
 unfoldable pub firstTry : List ℕ → Hull → ℕ
 firstTry d H = leastFrom (accepts d H) 0 tries
@@ -40,15 +38,37 @@ within H =
     (mostLinkCells - 1))
 
 -- a candidate was accepted
+unfoldable pub isTried : List ℕ → Bool
+isTried d = ltb (firstTry d (hullIn d)) tries
+
+-- where the search for a sum leads; its links, at most five, of 12 bytes each; the check accepts them
+unfoldable pub sumWay : List ℕ → Way
+sumWay d = walked (rowsIn d) (originColumnOf d) (originRowOf d)
+
+unfoldable pub sumLinks : Way → ℕ
+sumLinks w = min (w .depth) mostLinks
+
+unfoldable pub sumChain : Way → List ℕ
+sumChain w = take (sumLinks w * 12) (sumBytes w)
+
+unfoldable pub sums : List ℕ → Way → Bool
+sums d w = isDone (checked d (sumLinks w) (sumChain w))
+
+-- a candidate was accepted, or else a sum
+unfoldable pub isSearched : List ℕ → Bool
+isSearched d = cond (isTried d) true (sums d (sumWay d))
+
 unfoldable pub isFound : List ℕ → Bool
-isFound d = within (hullIn d) && ltb (firstTry d (hullIn d)) tries
+isFound d = within (hullIn d) && isSearched d
 
 -- the chain, and its number of links
 unfoldable pub chainFor : List ℕ → List ℕ
-chainFor d = chainBy (hullIn d) (tryNo (firstTry d (hullIn d)))
+chainFor d =
+    cond (isTried d) (chainBy (hullIn d) (tryNo (firstTry d (hullIn d)))) (sumChain (sumWay d))
 
 unfoldable pub linksFor : List ℕ → ℕ
-linksFor d = linksOf (hullIn d) (tryNo (firstTry d (hullIn d)))
+linksFor d =
+    cond (isTried d) (linksOf (hullIn d) (tryNo (firstTry d (hullIn d)))) (sumLinks (sumWay d))
 
 -- the refusals in order: 4 SHAPE, 18 NOCHAIN, 8 ROOM
 unfoldable pub findTests : List ℕ → ℕ → List Test
@@ -58,9 +78,9 @@ findTests d room =
 unfoldable pub findAnswer : List ℕ → ℕ → Told
 findAnswer d room = refuse (findTests d room) (plain 0)
 
--- the search gave up: every candidate was tried in vain
+-- the search gave up: every candidate was tried in vain, and the search for a sum too
 unfoldable pub gaveUp : List ℕ → Bool
-gaveUp d = wellMade d && (within (hullIn d) && not (ltb (firstTry d (hullIn d)) tries))
+gaveUp d = wellMade d && (within (hullIn d) && not (isSearched d))
 
 -- what find_chain answers: links and bytes are 0 where it is refused
 pub record FoundAs (d : List ℕ) (room : ℕ) (r : Found) : Type 0 where

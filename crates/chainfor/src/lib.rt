@@ -1,13 +1,16 @@
-// A chain for an element: candidates in a stated order, and the first that the check accepts.
+// A chain for an element: candidates in a stated order, and the first that the check accepts;
+// where it accepts none, a sum that the element is taken apart into.
 use answer::Answer;
-use candidates::Hull;
+use hulls::Hull;
 use reach::MOST_LINK_CELLS;
 use reach::MOST_LINKS;
+use takeapart::Way;
 ghost use mathlib.Core.Path.{_≡_};
 ghost use lib.ListN.{length};
 ghost use Rattle.chainfor.specs.Find.{accepts, firstTry, FoundAs, chainLeft};
+ghost use Rattle.chainfor.specs.Steps.Summed.{SumAs, sumLeft};
 
-// How many candidates there are: the search gives up after these.
+// How many candidates there are: after these the element is taken apart.
 pub const TRIES: usize = 51;
 
 // The columns, or the rows, that the sums of a chain can span, less one.
@@ -46,8 +49,11 @@ fn first_try(element: &[u8], hull: Hull) -> usize
         }
         t += 1;
     }
-    TRIES
+    t
 }
+
+// The number of bytes that a link of a sum has.
+const LINK_BYTES: usize = 12;
 
 fn refused(answer: Answer, gave_up: bool) -> Found
     ensures { λ r. ⌜ (r .answer ≡ answer)
@@ -58,6 +64,29 @@ fn refused(answer: Answer, gave_up: bool) -> Found
         links: 0,
         bytes: 0,
         gave_up,
+    }
+}
+
+// A sum that the element was taken apart into, where the check accepts it.
+fn find_sum(element: &[u8], way: Way, chain: &mut [u8]) -> Found
+    ensures found { λ r. ⌜ SumAs (now (element .entry)) way (length (now (chain .entry))) r ⌝ }
+    ensures bytes { λ _. ⌜ now (chain .exit) ≡ sumLeft (now (element .entry)) way (now (chain .entry)) ⌝ }
+{
+    let work = takeapart::sum_bytes(way);
+    let links = basics::lesser(way.depth, MOST_LINKS);
+    let n = links * LINK_BYTES;
+    if !answer::is_done(chain::check_chain(element, links, &work[..n])) {
+        return refused(Answer::NoChain, true);
+    }
+    if chain.len() < n {
+        return refused(Answer::Room, false);
+    }
+    bytes::copy(&work[..n], chain);
+    Found {
+        answer: Answer::Done,
+        links,
+        bytes: n,
+        gave_up: false,
     }
 }
 
@@ -72,7 +101,7 @@ pub fn find_chain(element: &[u8], chain: &mut [u8]) -> Found
     if !answer::is_done(answer) {
         return refused(answer, false);
     }
-    let hull = candidates::hull_of(e);
+    let hull = hulls::hull_of(e);
     let across = hull.across;
     let down = hull.down;
     if MOST_SPAN < across.span {
@@ -83,7 +112,16 @@ pub fn find_chain(element: &[u8], chain: &mut [u8]) -> Found
     }
     let t = first_try(element, hull);
     if t == TRIES {
-        return refused(Answer::NoChain, true);
+        let outline = e.outline;
+        let origin = outline.origin;
+        let p = origin.ping;
+        let b = origin.bin;
+        let rows = e.rows;
+        return find_sum(
+            element,
+            takeapart::walk(rows, p.0 as usize, b.0 as usize),
+            chain,
+        );
     }
     let c = candidates::try_no(t);
     let links = candidates::links_of(hull, c);

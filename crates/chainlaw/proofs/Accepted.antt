@@ -11,8 +11,8 @@ use Rattle.morphology.specs.Chain.{Chained}
 use Rattle.morphology.specs.Check.{still, Verdict, Taken, Split, checkOf}
 use Rattle.morphology.proofs.Places.{FaultAt, missed-at, extra-at, SaysAt}
 use Rattle.morphology.proofs.Scan.{check-says-at}
-use Rattle.candidates.specs.declared.Side.{Side}
-use Rattle.candidates.specs.Hull.{sideOf}
+use Rattle.hulls.specs.declared.Side.{Side}
+use Rattle.hulls.specs.Hull.{sideOf}
 use Rattle.chainlaw.specs.Boxes.{Filled}
 use Rattle.chainlaw.proofs.Parts.{rest-all, le-or, Leads, Way}
 use Rattle.chainlaw.proofs.Walks.{PartsFrom, Ended, endOf, walk-leads, path-there}

@@ -13,7 +13,7 @@ use Rattle.element.specs.Shape.{Shape}
 use Rattle.element.specs.Descriptor.{wideOf, highOf, wellMade, shapeIn, descriptorLength}
 use Rattle.element.proofs.Cells.{ends-there}
 use Rattle.chain.specs.Reading.{firstOf, restOf, small, linkTests, linksIn}
-use Rattle.candidates.specs.declared.Side.{Side}
+use Rattle.hulls.specs.declared.Side.{Side}
 use Rattle.chainlaw.proofs.Walks.{PartOf, PartsFrom, endOf}
 
 -- the elements of descriptors

@@ -25,14 +25,15 @@ use Rattle.faults.specs.Verdicts.{answerOf}
 use Rattle.morphology.specs.Check.{Taken, checkOf}
 use Rattle.chain.specs.Reading.{counted, linkTests, chainTests, checkTests, linksIn, checked}
 use Rattle.chain.proofs.Checking.{well-chained}
-use Rattle.candidates.specs.declared.Hull.{Hull}
-use Rattle.candidates.specs.declared.Side.{Side}
-use Rattle.candidates.specs.Extent.{extentOf}
-use Rattle.candidates.specs.Hull.{hullIn, rowsIn, sideOf, hullBy, hullOf}
+use Rattle.hulls.specs.declared.Hull.{Hull}
+use Rattle.hulls.specs.declared.Side.{Side}
+use Rattle.hulls.specs.Extent.{extentOf}
+use Rattle.hulls.specs.Hull.{hullIn, rowsIn, sideOf, hullBy, hullOf}
 use Rattle.candidates.specs.Candidates.{tryNo, needed, linksOf, linkBytes, chainBy}
-use Rattle.chainfor.specs.Find.{tries, accepts, leastFrom, firstTry, within, isFound}
+use Rattle.dividing.specs.Least.{leastFrom}
+use Rattle.chainfor.specs.Find.{tries, accepts, firstTry, isTried, sumWay, sums, isSearched, within, isFound}
 use Rattle.candidates.proofs.Numbers.{needs-one, needs-two, needs-three, needs-four, needs-five}
-use Rattle.candidates.proofs.Hulls.{rows-in}
+use Rattle.hulls.proofs.Hulls.{rows-in}
 use Rattle.chainfor.proofs.Finding.{within-near}
 use Rattle.chainlaw.specs.Boxes.{Filled, InReach}
 use Rattle.chainlaw.proofs.Parts.{le-or}
@@ -250,8 +251,8 @@ module _ (d : List ℕ) (bytes : Bytes d) (made : wellMade d ≡ true) (c e r s 
       ∙ ap (λ v. told (answerOf v)) taken) ∙ all-done
 
   pub box-found : isFound d ≡ true
-  unfolding isFound firstTry H
+  unfolding isFound isSearched isTried firstTry H
   box-found =
-      ap₂ (λ a b. a && b) (within-near (hullIn d) (fx .reach) (fy .reach))
+      ap₂ (λ a b. a && cond b true (sums d (sumWay d))) (within-near (hullIn d) (fx .reach) (fy .reach))
       (lt-ltb (firstTry d (hullIn d)) tries
       (omega (arith, least-by (accepts d (hullIn d)) tries 0 1 (omega arith) (omega arith) accepted)))

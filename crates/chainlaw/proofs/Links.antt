@@ -25,8 +25,8 @@ use Rattle.element.specs.Descriptor.{mostCells, wideOf, highOf, originColumnOf,
 use Rattle.element.specs.Descriptor.{cellsEnd}
 use Rattle.element.specs.Descriptor.{headMade, cellsMade, wellMade, shapeIn}
 use Rattle.chain.specs.Reading.{small}
-use Rattle.candidates.specs.declared.Hull.{Hull}
-use Rattle.candidates.specs.declared.Side.{Side}
+use Rattle.hulls.specs.declared.Hull.{Hull}
+use Rattle.hulls.specs.declared.Side.{Side}
 use Rattle.candidates.specs.declared.Try.{Try}
 use Rattle.candidates.specs.Candidates.{part, runByte, rowWith, rowByte, linkByte, linkBytes, lengthOf}
 use Rattle.candidates.proofs.Numbers.{byte-wide, byte-high, byte-column, byte-row, byte-boxed}

@@ -10,8 +10,8 @@ use lib.Dec.{T}
 use lib.ListN.{getD}
 use Rattle.element.specs.Descriptor.{mostCells}
 use Rattle.element.specs.Record.{cellOn}
-use Rattle.candidates.specs.declared.Extent.{Extent}
-use Rattle.candidates.specs.Extent.{unseen, withCell, seen, rowExtent, extentOf}
+use Rattle.hulls.specs.declared.Extent.{Extent}
+use Rattle.hulls.specs.Extent.{unseen, withCell, seen, rowExtent, extentOf}
 
 -- the extent holds the cell (x, y)
 pub record Around (b : Extent) (x y : ℕ) : Type 0 where

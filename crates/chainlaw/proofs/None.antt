@@ -20,11 +20,11 @@ use Rattle.morphology.specs.Check.{still, total, backX, forthX, backY, forthY}
 use Rattle.morphology.proofs.Places.{Walk, FaultAt}
 use Rattle.morphology.proofs.Scan.{walk-range}
 use Rattle.morphology.proofs.Agree.{to-chain}
-use Rattle.candidates.specs.declared.Hull.{Hull}
-use Rattle.candidates.specs.Extent.{extentOf}
-use Rattle.candidates.specs.Hull.{hullIn, rowsIn, sideOf, hullBy, hullOf}
+use Rattle.hulls.specs.declared.Hull.{Hull}
+use Rattle.hulls.specs.Extent.{extentOf}
+use Rattle.hulls.specs.Hull.{hullIn, rowsIn, sideOf, hullBy, hullOf}
 use Rattle.chainfor.specs.Find.{within}
-use Rattle.candidates.proofs.Hulls.{rows-in}
+use Rattle.hulls.proofs.Hulls.{rows-in}
 use Rattle.chainfor.proofs.Finding.{within-near}
 use Rattle.chainlaw.proofs.Measured.{Inside, all-inside}
 

@@ -26,11 +26,13 @@ use Rattle.morphology.proofs.Places.{FaultAt, SaysAt}
 use Rattle.morphology.proofs.Scan.{check-says-at}
 use Rattle.chain.specs.Reading.{checkTests, linksIn, checked}
 use Rattle.chain.proofs.Checking.{well-chained, check-number, check-numbered}
-use Rattle.candidates.specs.Hull.{hullIn}
+use Rattle.hulls.specs.Hull.{hullIn}
 use Rattle.chainfor.specs.declared.Found.{Found}
 use Rattle.candidates.specs.Candidates.{tryNo, linksOf, chainBy}
-use Rattle.chainfor.specs.Find.{tries, accepts, leastFrom, firstTry, within, isFound, chainFor, linksFor}
-use Rattle.chainfor.specs.Find.{findTests, findAnswer, gaveUp, FoundAs, chainLeft}
+use Rattle.dividing.specs.Least.{leastFrom}
+use Rattle.chainfor.specs.Find.{tries, accepts, firstTry, isTried, sumWay, sumLinks, sumChain, sums}
+use Rattle.chainfor.specs.Find.{within, isFound, chainFor, linksFor, findTests, findAnswer, gaveUp, FoundAs}
+use Rattle.chainfor.specs.Find.{isSearched, chainLeft}
 use Rattle.chainfor.proofs.Finding.{find-done, chain-few}
 use Rattle.chainlaw.specs.Boxes.{Filled, InReach}
 use Rattle.chainlaw.proofs.Found.{box-found}
@@ -93,6 +95,25 @@ least-passes p (suc n) i h = by (p i) refl h (least-passes p n (suc i))
     by true q l f = q
     by false q l f = f (omega (arith, l))
 
+-- what was found is accepted: a candidate, or else a sum
+found-accepted : (d : List ℕ) → isSearched d ≡ true → isDone (checked d (linksFor d) (chainFor d)) ≡ true
+unfolding isSearched linksFor chainFor isTried firstTry accepts sums
+found-accepted d e = by (isTried d) refl e
+  where
+    candidate : isTried d ≡ true
+        → isDone (checked d (linksOf (hullIn d) (tryNo (firstTry d (hullIn d))))
+        (chainBy (hullIn d) (tryNo (firstTry d (hullIn d))))) ≡ true
+    candidate q =
+        least-passes (accepts d (hullIn d)) tries 0
+        (ltb-true (leastFrom (accepts d (hullIn d)) 0 tries) tries q)
+
+    by : (b : Bool) → isTried d ≡ b → cond b true (sums d (sumWay d)) ≡ true
+        → isDone (checked d (cond b (linksOf (hullIn d) (tryNo (firstTry d (hullIn d))))
+        (sumLinks (sumWay d)))
+        (cond b (chainBy (hullIn d) (tryNo (firstTry d (hullIn d)))) (sumChain (sumWay d)))) ≡ true
+    by true q s = candidate q
+    by false q s = s
+
 -- ---- what the tests tell
 tell : (m f s : Bool) (n : ℕ) → refuse ((not m, 4) ∷ (not f, 18) ∷ (s, 8) ∷ []) (plain 0) ≡ plain n
     → (n ≡ 0 → (m ≡ true) × (f ≡ true)) × (n ≡ 18 → (m ≡ true) × (f ≡ false))
@@ -122,7 +143,7 @@ module _ (d t u : List ℕ) (r : Found) (f : FoundAs d (length t) r) (w : u ≡ 
 
   -- what is written is a chain that the check accepts
   pub written-accepted : told (r .answer) ≡ plain 0 → checked d (r .links) (take (r .bytes) u) ≡ plain 0
-  unfolding isFound firstTry accepts chainFor linksFor chainLeft unlessRefused
+  unfolding isFound chainLeft unlessRefused
   written-accepted e =
       let q = sym (f .answered) ∙ e in
       let done = ap isDone q ∙ all-done in
@@ -130,9 +151,8 @@ module _ (d t u : List ℕ) (r : Found) (f : FoundAs d (length t) r) (w : u ≡ 
       let n : r .bytes ≡ length (chainFor d) = f .written ∙ ap (λ b. cond b (length (chainFor d)) 0) done in
       let v : u ≡ chainFor d ++ drop (length (chainFor d)) t =
       w ∙ ap (λ b. cond b (chainFor d ++ drop (length (chainFor d)) t) t) done in
-      let i = split-and (within (hullIn d)) (ltb (firstTry d (hullIn d)) tries) (said 0 e .0 refl .1) in
-      let passed = least-passes (accepts d (hullIn d)) tries 0
-      (ltb-true (leastFrom (accepts d (hullIn d)) 0 tries) tries (i .1)) in
+      let i = split-and (within (hullIn d)) (isSearched d) (said 0 e .0 refl .1) in
+      let passed = found-accepted d (i .1) in
       λ i. (ap₂ (λ k c. checked d k c) l
       (ap₂ take n v ∙ take-at (chainFor d) (drop (length (chainFor d)) t) (length (chainFor d)) refl)
       ∙ done-plain d (linksFor d) (chainFor d) passed) i
@@ -147,7 +167,7 @@ module _ (d t u : List ℕ) (r : Found) (f : FoundAs d (length t) r) (w : u ≡ 
       let h = accepted-within d bytes (s .0) (linksIn k c) (z .0) (z .1) in
       false≢true (sym g ∙ f .tried
       ∙ ap₂ (λ m n. m && n) (s .0) (ap₂ (λ m n. m && not n) h
-      (sym (ap (λ b. b && ltb (firstTry d (hullIn d)) tries) h) ∙ s .1)))
+      (sym (ap (λ b. b && isSearched d) h) ∙ s .1)))
 
   -- a rectangle that can have a chain gets one, where there is room
   pub rectangle-found : Bytes d → wellMade d ≡ true → (a b c e : ℕ) → Filled (shapeIn d) a b c e

@@ -6,7 +6,7 @@ use native.Mathlib.Omega.{arith}
 use lib.Dec.{leb, leb→le, nleb→lt, not-T}
 use Rattle.answer.specs.Answer.{centre}
 use Rattle.basics.proofs.Truth.{decided}
-use Rattle.candidates.specs.declared.Side.{Side}
+use Rattle.hulls.specs.declared.Side.{Side}
 use Rattle.candidates.specs.Candidates.{part}
 
 -- what is left of x after i links

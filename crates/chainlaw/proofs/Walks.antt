@@ -10,7 +10,7 @@ use Rattle.element.specs.Shape.{Shape}
 use Rattle.morphology.specs.Step.{Place, Cell, Step}
 use Rattle.morphology.specs.Check.{still}
 use Rattle.morphology.proofs.Places.{Walk, BetweenAt}
-use Rattle.candidates.specs.declared.Side.{Side}
+use Rattle.hulls.specs.declared.Side.{Side}
 use Rattle.candidates.specs.Candidates.{part}
 use Rattle.chainlaw.proofs.Parts.{rest, rest-none, part-few, part-mono, Leads, Goes, Way, then-leads}
 use Rattle.chainlaw.proofs.Parts.{next}

@@ -1,8 +1,9 @@
 // Runs the jobs of its input, a line each: checks of chains, of which it prints what they answer,
-// and the finder, of which it prints the picture.
+// the finder, of which it prints the picture, and the search for a chain, of which it prints the chain.
 // tools/cases makes the lines, says what their letters and numbers mean, and makes what must be printed.
 use answer::Answer;
 use libc::STDIN_FILENO;
+use libc::STDOUT_FILENO;
 use lines::Head;
 use picture::Depth;
 
@@ -36,6 +37,33 @@ fn found(head: Head, line: &[u8]) {
     );
 }
 
+fn flag(name: &[u8], n: usize) {
+    show::text(name);
+    io::print_decimal(STDOUT_FILENO, n as u64);
+    show::text(b"\n");
+}
+
+// The search for a chain: what it answers, its links, its bytes, whether it gave up, and the lent buffer.
+fn search(element: &[u8], chain: &mut [u8]) {
+    let found = chainfor::find_chain(element, chain);
+    let said: Answer = found.answer;
+    show::answered(said);
+    flag(b"links ", found.links);
+    flag(b"bytes ", found.bytes);
+    if found.gave_up {
+        show::text(b"gave up\n");
+    }
+    show::buffer(b"chain", &chain[..]);
+}
+
+fn searched(line: &[u8], at: usize) {
+    let mut element = io::buffer();
+    let mut chain = io::buffer();
+    let e = lines::buffer_at(line, at, &mut element);
+    let c = lines::buffer_at(line, e.next, &mut chain);
+    search(&element[..e.value], &mut chain[..c.value]);
+}
+
 // A label, or a job.
 fn job(letter: u8, line: &[u8]) {
     if letter == b'#' {
@@ -45,6 +73,10 @@ fn job(letter: u8, line: &[u8]) {
     let head = lines::head_of(letter, line);
     if letter == b'f' {
         found(head, line);
+        return;
+    }
+    if letter == b'c' {
+        searched(line, head.next);
         return;
     }
     checked(line, head.next, head.links);

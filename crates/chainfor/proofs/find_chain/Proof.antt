@@ -14,14 +14,14 @@ use Rattle.element.specs.Descriptor.{wellMade, mostCells}
 use Rattle.element.specs.Record.{elementOf}
 use Rattle.element.proofs.WellMade.{cells-tell, made-cells}
 use Rattle.chain.proofs.Reading.{read-made, read-unmade, unmade-told, made-element}
-use Rattle.candidates.specs.declared.Hull.{Hull}
-use Rattle.candidates.specs.Hull.{hullIn, hullOf}
+use Rattle.hulls.specs.declared.Hull.{Hull}
+use Rattle.hulls.specs.Hull.{hullIn, hullOf}
 use Rattle.chainfor.specs.Find.{tries, firstTry, within, chainFor, isFound}
-use Rattle.candidates.proofs.Hulls.{hull-in}
+use Rattle.hulls.proofs.Hulls.{hull-in}
 use Rattle.chainfor.proofs.Search.{sixty}
 use Rattle.chainfor.proofs.Finding.{find-unmade, find-none, find-short, find-done, unmade-tried}
-use Rattle.chainfor.proofs.Finding.{far-within, near-none, near-found, within-near, within-across}
-use Rattle.chainfor.proofs.Finding.{within-down}
+use Rattle.chainfor.proofs.Finding.{far-within, tried-none, near-found, within-near, within-across}
+use Rattle.chainfor.proofs.Finding.{within-down, far, way-is, summed-so}
 use Rattle.chainfor.proofs.Finding.{links-found, chain-found, length-found, refused-so, done-so}
 use Rattle.chainfor.proofs.find_chain.Statement.{statement}
 use Rattle.chainfor.proofs.find_chain.Tie as tie
@@ -88,16 +88,18 @@ returns-3 c =
     (ap told (e .0)) (e .1 .0) (e .1 .1 .0) (e .1 .1 .1 ∙ f .1)
 
 returns-4 : tie.Need-returns-4
-unfolding told
 returns-4 c =
-    let z = c .before .before .before in
+    let s = c .before .before in
+    let w = s .before .before in
+    let y = w .before .before .before .before .before .before .before .before in
+    let f = y .before in
+    let z = f .before in
     let h = z .before .before .before .before .before .before in
-    let e = c .refused4 .ensures in
-    let t : c .before .before .first-try .result ≡ tries = omega arith in
-    let f = near-none _ _ (hulled h) (made (h .before)) (near z)
-    (sym (c .before .before .first-try .ensures) ∙ t) in
-    refused-so _ _ _ 18 (omega arith) (find-none _ _ (made (h .before)) (f .0))
-    (ap told (e .0)) (e .1 .0) (e .1 .1 .0) (e .1 .1 .1 ∙ f .1)
+    let r = read (h .before .before) in
+    summed-so _ (made (h .before)) (far _ _ (hulled h) true (near z))
+    (tried-none _ _ (hulled h) (sym (f .first-try .ensures) ∙ y .if4 .taken)) _ _ _ _
+    (w .walk .ensures ∙ way-is _ _ (made-element _ (r .read-element .result) (r .read-element .ensures)
+    (made (h .before)))) (s .find-sum .ensures .0) (s .find-sum .ensures .1)
 
 mul-bytes : tie.Need-mul-bytes
 mul-bytes c = omega (
@@ -116,11 +118,11 @@ returns-5 c =
     let l = c .before .before in
     let z = l .before .before .before in
     let h = start z in
-    let e = c .refused5 .ensures in
+    let e = c .refused4 .ensures in
     let f = near-found _ _ (hulled h) (near (z .before .before))
     (λ q. z .if4 .left (z .before .first-try .ensures ∙ q)) in
     let n = length-found _ _ (hulled h) _ _ (z .before .first-try .ensures)
-    (l .before .before .try-no .ensures .0)
+    (l .before .before .try-no .ensures .0) (λ q. z .if4 .left (z .before .first-try .ensures ∙ q))
     (l .before .links-of .result) (l .length-of .result)
     (l .before .links-of .ensures .0) (l .length-of .ensures .0) in
     refused-so _ _ _ 8 (omega arith) (find-short _ _ (made (h .before)) (f .0) (omega (arith, n)))
@@ -140,12 +142,14 @@ returns-6 c =
     let t = z .before .first-try .ensures in
     let y = l .before .before .try-no .ensures .0 in
     let a = read (h .before .before) .before .before .before .args in
-    let n = length-found _ _ (hulled h) _ _ t y (l .before .links-of .result) (l .length-of .result) k m in
+    let n = length-found _ _ (hulled h) _ _ t y (λ q. z .if4 .left (t ∙ q)) (l .before .links-of .result)
+    (l .length-of .result) k m in
     done-so (a .element .now) (a .chain .now) _ _
     (find-done (a .element .now) (length (a .chain .now)) (made (h .before)) (f .0) (omega (arith, n)))
-    refl (links-found _ _ (hulled h) _ _ t y _ k) n (f .1)
+    refl (links-found _ _ (hulled h) _ _ t y (λ q. z .if4 .left (t ∙ q)) _ k) n (f .1)
     (p .put-links .ensures
-    ∙ ap₂ (λ x b. x ++ drop b (a .chain .now)) (chain-found _ _ (hulled h) _ _ t y _ _ k m) n)
+    ∙ ap₂ (λ x b. x ++ drop b (a .chain .now))
+    (chain-found _ _ (hulled h) _ _ t y (λ q. z .if4 .left (t ∙ q)) _ _ k m) n)
 
 pub find-chain-spec : {M : Type 1} → statement M
 find-chain-spec =
@@ -161,7 +165,11 @@ find-chain-spec =
     (λ c κs. search needs)
     returns-3
     (λ c κs. search needs)
+    (λ c. search needs)
+    (λ c. search needs)
     (λ c κs. search needs)
+    (λ c κs. search needs)
+    (λ c. search needs)
     returns-4
     (λ c κs. search needs)
     (λ c κs. search needs)

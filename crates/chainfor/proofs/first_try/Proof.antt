@@ -4,8 +4,9 @@ use Prim.Native.Nat.{_-_, _≤_}
 use mathlib.Core.Path.{_≡_, refl, sym, _∙_}
 use native.Mathlib.Omega.{arith}
 use borrow.Author.Needs.{needs}
-use Rattle.chainfor.specs.Find.{tries, accepts, leastFrom, firstTry}
-use Rattle.chainfor.proofs.Search.{least-here, least-more, least-end}
+use Rattle.dividing.specs.Least.{leastFrom}
+use Rattle.dividing.proofs.Least.{least-here, least-more, least-end}
+use Rattle.chainfor.specs.Find.{tries, accepts, firstTry}
 use Rattle.chainfor.proofs.first_try.Statement.{statement}
 use Rattle.chainfor.proofs.first_try.Tie as tie
 

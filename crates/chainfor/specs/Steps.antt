@@ -1,0 +1,2 @@
+-- How the work goes: what is answered where no candidate was accepted.
+pub mod Summed
