@@ -27,7 +27,7 @@ use Rattle.morphology.proofs.Cells.{erode-cells, dilate-cells}
 use Rattle.rows.specs.Steps.Ways.{weighBy, sweptBy}
 use Rattle.byterow.specs.Steps.Row.{heightenedBy}
 use Rattle.apply.specs.Steps.Applied.{Fitting, flatBy, flatTwiceBy}
-use Rattle.apply.specs.Steps.Applied.{heightened, weightedBy, weightedTwiceBy}
+use Rattle.apply.specs.Steps.Applied.{weightedBy, weightedTwiceBy}
 use Rattle.apply.proofs.Twice.{swept-alike}
 
 module _ (d : List ℕ) (m : cellsMade d ≡ true) where
@@ -46,7 +46,10 @@ module _ (d : List ℕ) (m : cellsMade d ≡ true) where
       whole : (h : ℕ) → h ≤ mostCells → h + (mostCells - h) ≡ mostCells
       whole h l = omega arith
 
-  fitting-own : Fitting (elementOf d)
+  pub words-long : (e : Element) → e ≡ elementOf d → length (e .rows) ≡ mostCells
+  words-long e q = ap (λ (e : Element). length (e .rows)) q ∙ words-length
+
+  fitting-own : Fitting (elementOf d .outline) (length (elementOf d .rows))
   unfolding elementOf
   fitting-own =
       let t = cells-tell d m in
@@ -55,11 +58,11 @@ module _ (d : List ℕ) (m : cellsMade d ≡ true) where
         few-high = t .few-high;
         column = t .column;
         row = t .row;
-        words = words-length;
+        words = subst (λ n. highOf d ≤ n) (sym words-length) (t .few-high);
       }
 
-  pub fitting : (e : Element) → e ≡ elementOf d → Fitting e
-  fitting e q = subst Fitting (sym q) fitting-own
+  pub fitting : (e : Element) → e ≡ elementOf d → Fitting (e .outline) (length (e .rows))
+  fitting e q = subst (λ (e : Element). Fitting (e .outline) (length (e .rows))) (sym q) fitting-own
 
   -- ---- a flat operation, and a weighted one by the heights in the descriptor's own bytes
   module _ (b : Bytes d) (top : ℕ) (F : Frame) (A : Picture) (x y : ℕ) where
@@ -74,9 +77,10 @@ module _ (d : List ℕ) (m : cellsMade d ≡ true) where
         (λ c r lc lr. cell-same d b m c r lc lr) F A x y flat top
 
     pub weighted-read : (grows : Bool)
-        → sweptBy grows (weighBy grows) top F (heightened (elementOf d) (heightsOf d)) A x y
+        → sweptBy grows (weighBy grows) top F (heightenedBy (elementOf d .outline) (elementOf d .rows)
+        (heightsOf d)) A x y
         ≡ sweptBy grows (weighBy grows) top F (weightedIn d) A x y
-    unfolding heightened heightenedBy weightedOf weightedIn elementOf
+    unfolding heightenedBy weightedOf weightedIn elementOf
     weighted-read true =
         dilate-cells (weightedOf (elementOf d) d) (weightedIn d .has)
         (λ c r lc lr. weighted-cell-same d b m c r lc lr) F A x y raise
@@ -106,37 +110,41 @@ module _ (d : List ℕ) (m : cellsMade d ≡ true) (b : Bytes d)
     (e : Element) (q : e ≡ elementOf d) (grows : Bool) (w h : ℕ)
     (A : Picture) (t u : List ℕ) where
   module _ (depth : Depth) where
-    pub flat-written : u ≡ written depth (flatBy grows depth w h e A) w h t
+    pub flat-written : u ≡ written depth (flatBy grows depth w h (e .outline) (e .rows) A) w h t
         → u ≡ written depth (sweptBy grows flat (top depth) (frame w h) (shapeIn d) A) w h t
     flat-written eu =
-        eu ∙ ap (λ (e : Element). written depth (flatBy grows depth w h e A) w h t) q
+        eu ∙ ap (λ (e : Element). written depth (flatBy grows depth w h (e .outline) (e .rows) A) w h t) q
         ∙ written-same depth _ _ w h t (λ x y lx ly. flat-read d m b (top depth) (frame w h) A x y grows)
 
-    pub flat-twice-written : u ≡ written depth (flatTwiceBy grows depth w h e A) w h t
+    pub flat-twice-written : u ≡ written depth (flatTwiceBy grows depth w h (e .outline) (e .rows) A) w h t
         → u ≡ written depth
         (sweptBy (not grows) flat (top depth) (frame w h) (shapeIn d)
         (sweptBy grows flat (top depth) (frame w h) (shapeIn d) A)) w h t
     flat-twice-written eu =
-        eu ∙ ap (λ (e : Element). written depth (flatTwiceBy grows depth w h e A) w h t) q
+        eu ∙ ap (λ (e : Element). written depth (flatTwiceBy grows depth w h (e .outline)
+        (e .rows) A) w h t) q
         ∙ written-same depth _ _ w h t (λ x y lx ly.
         flat-read d m b (top depth) (frame w h) _ x y (not grows)
         ∙ swept-alike (not grows) flat (top depth) (frame w h) (shapeIn d) _ _
         (λ p i. flat-read d m b (top depth) (frame w h) A (p .x) (p .y) grows) x y)
 
   module _ (hs : List ℕ) (eh : hs ≡ heightsOf d) where
-    pub weighted-written : u ≡ written EightBit (weightedBy grows w h e hs A) w h t
+    pub weighted-written : u ≡ written EightBit (weightedBy grows w h (e .outline) (e .rows) hs A) w h t
         → u ≡ written EightBit (sweptBy grows (weighBy grows) 255 (frame w h) (weightedIn d) A) w h t
     weighted-written eu =
-        eu ∙ ap₂ (λ (e : Element) hs. written EightBit (weightedBy grows w h e hs A) w h t) q eh
+        eu ∙ ap₂ (λ (e : Element) hs. written EightBit (weightedBy grows w h (e .outline)
+        (e .rows) hs A) w h t) q eh
         ∙ written-same EightBit _ _ w h t (λ x y lx ly. weighted-read d m b 255 (frame w h) A x y grows)
 
-    pub weighted-twice-written : u ≡ written EightBit (weightedTwiceBy grows w h e hs A) w h t
+    pub weighted-twice-written : u ≡ written EightBit (weightedTwiceBy grows w h (e .outline)
+        (e .rows) hs A) w h t
         → u ≡ written EightBit
         (sweptBy (not grows) (weighBy (not grows)) 255 (frame w h) (weightedIn d)
         (sweptBy grows (weighBy grows) 255 (frame w h) (weightedIn d) A))
         w h t
     weighted-twice-written eu =
-        eu ∙ ap₂ (λ (e : Element) hs. written EightBit (weightedTwiceBy grows w h e hs A) w h t) q eh
+        eu ∙ ap₂ (λ (e : Element) hs. written EightBit (weightedTwiceBy grows w h (e .outline)
+        (e .rows) hs A) w h t) q eh
         ∙ written-same EightBit _ _ w h t (λ x y lx ly.
         weighted-read d m b 255 (frame w h) _ x y (not grows)
         ∙ swept-alike (not grows) (weighBy (not grows)) 255 (frame w h) (weightedIn d) _ _

@@ -13,15 +13,17 @@ use Rattle.picture.specs.Points.{valueAt, valueIn, byteAt, place}
 use Rattle.picture.specs.Bytes.{Picture, written}
 use Rattle.picture.proofs.Points.{written-same}
 use Rattle.picture.proofs.Shown.{written-shown}
-use Rattle.element.specs.declared.Element.{Element}
+use Rattle.element.specs.declared.Outline.{Outline}
 use Rattle.element.specs.Shape.{Shape}
-use Rattle.element.specs.Record.{shapeOf}
+use Rattle.element.specs.Record.{shapeBy}
 use Rattle.morphology.specs.Operations.{Change, flat}
 use Rattle.morphology.specs.Order.{Alike, Bounded}
 use Rattle.morphology.proofs.Order.{erode-alike, dilate-alike}
+use Rattle.rows.specs.Steps.Ready.{Ready}
 use Rattle.rows.specs.Steps.Ways.{weighBy, sweptBy}
 use Rattle.rows.proofs.Swept.{swept-bounded}
-use Rattle.apply.specs.Steps.Applied.{flatBy, flatTwiceBy, heightened, weightedBy, weightedTwiceBy}
+use Rattle.byterow.specs.Steps.Row.{heightenedBy}
+use Rattle.apply.specs.Steps.Applied.{flatOf, flatTwiceBy, weightedBy, weightedTwiceBy}
 
 -- ---- one-bit results are 0 or 1
 pub bit-value : (depth : Depth) → depth ≡ OneBit → (s : List ℕ) (w x y : ℕ) → valueAt depth s w x y ≤ 1
@@ -73,25 +75,40 @@ module _ (depth : Depth) (w h : ℕ) (B : Shape) (middle : Picture) (m m₀ t u 
       ∙ written-shown depth middle w h m₀ small (p .x) (p .y) (i .ping) (i .bin)) x y)
 
 -- ---- flat, and weighted
-pub flat-after : (depth : Depth) (w h : ℕ) (e : Element) (s m m₀ t u : List ℕ) (first other : Bool)
-    → other ≡ not first
-    → m ≡ written depth (flatBy first depth w h e (valueAt depth s w)) w h m₀
-    → u ≡ written depth (flatBy other depth w h e (valueAt depth m w)) w h t
-    → u ≡ written depth (flatTwiceBy first depth w h e (valueAt depth s w)) w h t
-flat-after depth w h e s m m₀ t u first other eo em eu =
-    from-written depth w h (shapeOf e) (flatBy first depth w h e (valueAt depth s w)) m m₀ t u
-    (λ one. once-one depth w h (shapeOf e) s one first) em (not first) flat
-    (eu ∙ ap (λ g. written depth (flatBy g depth w h e (valueAt depth m w)) w h t) eo)
+module _ (w h : ℕ) (o : Outline) (words s m m₀ t u : List ℕ) (first : Bool) where
+  pub flat-after : (depth : Depth)
+      → m ≡ written depth (flatOf first depth s w h o words) w h m₀
+      → u ≡ written depth (flatOf (not first) depth m w h o words) w h t
+      → u ≡ written depth (flatTwiceBy first depth w h o words (valueAt depth s w)) w h t
+  flat-after depth em eu =
+      from-written depth w h (shapeBy o words) (flatOf first depth s w h o words) m m₀ t u
+      (λ one. once-one depth w h (shapeBy o words) s one first) em (not first) flat eu
 
-pub weighted-after : (w h : ℕ) (e : Element) (hs s m m₀ t u : List ℕ) (first other : Bool) → other ≡ not first
-    → m ≡ written EightBit (weightedBy first w h e hs (valueAt EightBit s w)) w h m₀
-    → u ≡ written EightBit (weightedBy other w h e hs (valueAt EightBit m w)) w h t
-    → u ≡ written EightBit (weightedTwiceBy first w h e hs (valueAt EightBit s w)) w h t
-weighted-after w h e hs s m m₀ t u first other eo em eu =
-    from-written EightBit w h (heightened e hs) (weightedBy first w h e hs (valueAt EightBit s w)) m m₀ t u
-    (λ one. let z : _≡_ {A = ℕ} 0 1 = cc in absurd (omega arith)) em (not first) (weighBy (not first))
-    (eu ∙ ap (λ g. written EightBit (weightedBy g w h e hs (valueAt EightBit m w)) w h t) eo)
+  pub weighted-after : (hs : List ℕ)
+      → m ≡ written EightBit (weightedBy first w h o words hs (valueAt EightBit s w)) w h m₀
+      → u ≡ written EightBit (weightedBy (not first) w h o words hs (valueAt EightBit m w)) w h t
+      → u ≡ written EightBit (weightedTwiceBy first w h o words hs (valueAt EightBit s w)) w h t
+  weighted-after hs em eu =
+      from-written EightBit w h (heightenedBy o words hs)
+      (weightedBy first w h o words hs (valueAt EightBit s w)) m m₀ t u
+      (λ one. let z : _≡_ {A = ℕ} 0 1 = cc in absurd (omega arith)) em (not first) (weighBy (not first)) eu
 
 -- a buffer that was written to is as long as it was
 pub still-holds : (depth : Depth) (w h was now : ℕ) → now ≡ was → Holds depth was w h → Holds depth now w h
 still-holds depth w h was now e p = subst (λ n. Holds depth n w h) (sym e) p
+
+-- and an element does for it what it did for the source
+pub ready-from : (depth : Depth) (w h ns nw was now : ℕ) (o : Outline) → now ≡ was
+    → Ready depth ns nw w h o → Holds depth was w h → Ready depth now nw w h o
+ready-from depth w h ns nw was now o e p b =
+    record {
+      some-pings = p .some-pings;
+      few-pings = p .few-pings;
+      few-bins = p .few-bins;
+      source = still-holds depth w h was now e b .long;
+      few-wide = p .few-wide;
+      few-high = p .few-high;
+      column = p .column;
+      row = p .row;
+      words = p .words;
+    }

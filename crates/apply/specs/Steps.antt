@@ -1,3 +1,2 @@
--- How the work goes: morphology's operations over the code's own record.
+-- How the work goes: morphology's operations over an outline and its row words.
 pub mod Applied
-pub mod Flat

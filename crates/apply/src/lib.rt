@@ -1,124 +1,41 @@
-// The rows of a picture by an element that was read, one after another.
+// A picture by an element that was read, once or twice; crates bitways and byteways choose the way.
 // Nothing is judged and nothing is refused here: entry points judge, then apply.
-use bitrow::Task;
-use element::Element;
+// Each depth has functions of its own, so that an entry point of one bit takes no stack for 8-bit rows.
 use element::Outline;
 use element::RowWord;
-use picture::Bin;
 use picture::Depth;
-use rows::Way;
 ghost use mathlib.Core.Path.{_≡_};
-ghost use mathlib.Core.Bool.{not};
-ghost use Prim.Native.Nat.{_*_, _≤_};
 ghost use lib.ListN.{length};
-ghost use Rattle.picture.specs.declared.Depth.the-variants.{EightBit};
+ghost use Rattle.picture.specs.declared.Depth.the-variants.{OneBit, EightBit};
 ghost use Rattle.picture.specs.Frame.{Holds};
 ghost use Rattle.picture.specs.Points.{valueAt};
 ghost use Rattle.picture.specs.Bytes.{written};
-ghost use Rattle.element.specs.Descriptor.{mostCells};
 ghost use Rattle.rows.specs.Steps.Ready.{Ready};
-ghost use Rattle.bitrow.specs.Steps.Row.{sweptBits};
-ghost use Rattle.byterow.specs.Steps.Row.{sweptBytes};
-ghost use Rattle.rows.specs.Steps.Ways.{growsOf};
-ghost use Rattle.apply.specs.Steps.Applied.{Fitting, flatBy, flatTwiceBy, weightedBy, weightedTwiceBy};
-ghost use Rattle.apply.specs.Steps.Flat.{flatOf};
+ghost use Rattle.apply.specs.Steps.Applied.{flatOf, flatTwiceBy, weightedBy, weightedTwiceBy};
 
-// Up to so many cells a flat element's rows are joined cell by cell.
-const FEW: usize = 16;
-
-// The whole one-bit picture, row by row; what lies past it in t stays.
-fn sweep_bits(k: Task, s: &[u8], t: &mut [u8], w: usize, h: usize, o: Outline, words: &[RowWord])
-    requires { ⌜ Ready Depth.OneBit (length (now s)) (length (now words)) w h o ⌝ }
-    requires { ⌜ Holds Depth.OneBit (length (now t)) w h ⌝ }
+// Erosion, or dilation where it grows, of the one-bit picture in s by a flat element, into t;
+// what lies past the picture there stays.
+pub fn flat_bits(
+    grows: bool,
+    s: &[u8],
+    t: &mut [u8],
+    w: usize,
+    h: usize,
+    o: Outline,
+    words: &[RowWord],
+)
+    requires { ⌜ Ready OneBit (length (now s)) (length (now words)) w h o ⌝ }
+    requires { ⌜ Holds OneBit (length (now t)) w h ⌝ }
     ensures { λ _. ⌜
         now (t .exit)
-        ≡ written Depth.OneBit (sweptBits k (now (s .entry)) w h o (now (words .entry)))
+        ≡ written OneBit (flatOf grows OneBit (now (s .entry)) w h o (now (words .entry)))
         w h (now (t .entry)) ⌝ }
 {
-    let n = picture::row_bytes(Depth::OneBit, w);
-    let mut y = 0;
-    while y < h {
-        let a = y * n;
-        let z = a + n;
-        bitrow::make_row(k, &mut t[a..z], s, w, h, Bin(y as u16), o, words);
-        y += 1;
-    }
-}
-
-// The same by a flat element: a rectangle goes its own way. One row alone is sooner made row by row.
-fn flat_bits(grows: bool, s: &[u8], t: &mut [u8], w: usize, h: usize, o: Outline, words: &[RowWord])
-    requires { ⌜ Ready Depth.OneBit (length (now s)) (length (now words)) w h o ⌝ }
-    requires { ⌜ Holds Depth.OneBit (length (now t)) w h ⌝ }
-    ensures { λ _. ⌜
-        now (t .exit)
-        ≡ written Depth.OneBit (flatOf grows Depth.OneBit (now (s .entry)) w h o (now (words .entry)))
-        w h (now (t .entry)) ⌝ }
-{
-    if 1 < o.h {
-        if boxes::is_box(words, o) {
-            rectangle::bits(grows, s, t, w, h, o);
-            return;
-        }
-    }
-    let k = Task { over: false, grows };
-    sweep_bits(k, s, t, w, h, o, words);
+    bitways::sweep(grows, s, t, w, h, o, words);
 }
 
 // The same of an 8-bit picture.
-fn sweep_bytes(
-    grows: bool,
-    s: &[u8],
-    t: &mut [u8],
-    w: usize,
-    h: usize,
-    o: Outline,
-    words: &[RowWord],
-    heights: &[u8],
-)
-    requires { ⌜ Ready Depth.EightBit (length (now s)) (length (now words)) w h o ⌝ }
-    requires { ⌜ Holds Depth.EightBit (length (now t)) w h ⌝ }
-    ensures { λ _. ⌜
-        now (t .exit)
-        ≡ written Depth.EightBit
-        (sweptBytes grows (now (s .entry)) w h o (now (words .entry)) (now (heights .entry)))
-        w h (now (t .entry)) ⌝ }
-{
-    let mut y = 0;
-    while y < h {
-        let a = y * w;
-        let z = a + w;
-        byterow::make_row(
-            grows,
-            &mut t[a..z],
-            s,
-            w,
-            h,
-            Bin(y as u16),
-            o,
-            words,
-            heights,
-        );
-        y += 1;
-    }
-}
-
-// How many cells are set in the first h row words.
-fn cells_in(words: &[RowWord], h: usize) -> usize
-    requires { ⌜ (h ≤ length (now words)) × (h ≤ mostCells) ⌝ }
-    ensures { λ r. ⌜ r ≤ mostCells * mostCells ⌝ }
-{
-    let mut n = 0;
-    let mut r = 0;
-    while r < h {
-        n += packedline::cell_count(words[r]);
-        r += 1;
-    }
-    n
-}
-
-// The same by a flat element. A few cells are soonest joined cell by cell, into one row of the result after
-// another; where they are many, the windows of a source row are made once for all the rows that see it.
-fn sweep_flat(
+pub fn flat_bytes(
     grows: bool,
     s: &[u8],
     t: &mut [u8],
@@ -134,163 +51,173 @@ fn sweep_flat(
         ≡ written Depth.EightBit (flatOf grows Depth.EightBit (now (s .entry)) w h o (now (words .entry)))
         w h (now (t .entry)) ⌝ }
 {
-    if cells_in(words, o.h) <= FEW {
-        let none = &s[..0];
-        sweep_bytes(grows, s, t, w, h, o, words, none);
-        return;
-    }
-    bysource::sweep(grows, s, t, w, h, o, words);
+    byteways::sweep(grows, s, t, w, h, o, words);
 }
 
-// The same by a flat element: a rectangle goes its own way.
-fn flat_bytes(
-    grows: bool,
-    s: &[u8],
-    t: &mut [u8],
-    w: usize,
-    h: usize,
-    o: Outline,
-    words: &[RowWord],
-)
-    requires { ⌜ Ready Depth.EightBit (length (now s)) (length (now words)) w h o ⌝ }
-    requires { ⌜ Holds Depth.EightBit (length (now t)) w h ⌝ }
-    ensures { λ _. ⌜
-        now (t .exit)
-        ≡ written Depth.EightBit (flatOf grows Depth.EightBit (now (s .entry)) w h o (now (words .entry)))
-        w h (now (t .entry)) ⌝ }
-{
-    // a single cell is a copy
-    if 2 < o.w + o.h {
-        if boxes::is_box(words, o) {
-            rectangle::bytes(grows, s, t, w, h, o);
-            return;
-        }
-    }
-    sweep_flat(grows, s, t, w, h, o, words);
-}
-
-fn other(way: Way) -> Way
-    ensures { λ r. ⌜ growsOf r ≡ not (growsOf way) ⌝ }
-{
-    match way {
-        Way::Erode => Way::Dilate,
-        Way::Dilate => Way::Erode,
-    }
-}
-
-// Erosion or dilation by a flat element, from the source into the target;
-// what lies past the picture there stays.
+// The same at either depth.
 pub fn flat(
     depth: Depth,
-    way: Way,
+    grows: bool,
+    s: &[u8],
+    t: &mut [u8],
     w: usize,
     h: usize,
-    source: &[u8],
-    e: Element,
-    target: &mut [u8],
+    o: Outline,
+    words: &[RowWord],
 )
-    requires { ⌜ Holds depth (length (now source)) w h ⌝ }
-    requires { ⌜ Holds depth (length (now target)) w h ⌝ }
-    requires { ⌜ Fitting e ⌝ }
+    requires { ⌜ Ready depth (length (now s)) (length (now words)) w h o ⌝ }
+    requires { ⌜ Holds depth (length (now t)) w h ⌝ }
     ensures { λ _. ⌜
-        now (target .exit)
-        ≡ written depth (flatBy (growsOf way) depth w h e (valueAt depth (now (source .entry)) w))
-        w h (now (target .entry)) ⌝ }
+        now (t .exit)
+        ≡ written depth (flatOf grows depth (now (s .entry)) w h o (now (words .entry)))
+        w h (now (t .entry)) ⌝ }
 {
-    let words = e.rows;
-    let grows = rows::is_growing(way);
     match depth {
-        Depth::OneBit => {
-            flat_bits(grows, source, target, w, h, e.outline, &words);
-        }
-        Depth::EightBit => {
-            flat_bytes(grows, source, target, w, h, e.outline, &words);
-        }
+        Depth::OneBit => flat_bits(grows, s, t, w, h, o, words),
+        Depth::EightBit => flat_bytes(grows, s, t, w, h, o, words),
     }
 }
 
-// The first into the scratch, and the other from there into the target:
+// The first into the scratch, and the other from there into t:
 // opening where erosion is the first, closing where dilation is.
-pub fn flat_twice(
-    depth: Depth,
-    first: Way,
+pub fn bits_twice(
+    grows: bool,
+    s: &[u8],
+    t: &mut [u8],
+    scratch: &mut [u8],
     w: usize,
     h: usize,
-    source: &[u8],
-    e: Element,
-    target: &mut [u8],
-    scratch: &mut [u8],
+    o: Outline,
+    words: &[RowWord],
 )
-    requires { ⌜ Holds depth (length (now source)) w h ⌝ }
-    requires { ⌜ Holds depth (length (now target)) w h ⌝ }
-    requires { ⌜ Holds depth (length (now scratch)) w h ⌝ }
-    requires { ⌜ Fitting e ⌝ }
+    requires { ⌜ Ready OneBit (length (now s)) (length (now words)) w h o ⌝ }
+    requires { ⌜ Holds OneBit (length (now t)) w h ⌝ }
+    requires { ⌜ Holds OneBit (length (now scratch)) w h ⌝ }
     ensures bytes { λ _. ⌜
-        now (target .exit)
-        ≡ written depth (flatTwiceBy (growsOf first) depth w h e (valueAt depth (now (source .entry)) w)) w h
-        (now (target .entry)) ⌝ }
+        now (t .exit)
+        ≡ written OneBit
+        (flatTwiceBy grows OneBit w h o (now (words .entry)) (valueAt OneBit (now (s .entry)) w))
+        w h (now (t .entry)) ⌝ }
     ensures middle { λ _. ⌜
         now (scratch .exit)
-        ≡ written depth (flatBy (growsOf first) depth w h e (valueAt depth (now (source .entry)) w)) w h
-        (now (scratch .entry)) ⌝ }
+        ≡ written OneBit (flatOf grows OneBit (now (s .entry)) w h o (now (words .entry)))
+        w h (now (scratch .entry)) ⌝ }
 {
-    flat(depth, first, w, h, source, e, scratch);
-    flat(depth, other(first), w, h, &scratch[..], e, target);
+    flat_bits(grows, s, scratch, w, h, o, words);
+    flat_bits(!grows, &scratch[..], t, w, h, o, words);
+}
+
+// The same of an 8-bit picture.
+pub fn bytes_twice(
+    grows: bool,
+    s: &[u8],
+    t: &mut [u8],
+    scratch: &mut [u8],
+    w: usize,
+    h: usize,
+    o: Outline,
+    words: &[RowWord],
+)
+    requires { ⌜ Ready EightBit (length (now s)) (length (now words)) w h o ⌝ }
+    requires { ⌜ Holds EightBit (length (now t)) w h ⌝ }
+    requires { ⌜ Holds EightBit (length (now scratch)) w h ⌝ }
+    ensures bytes { λ _. ⌜
+        now (t .exit)
+        ≡ written EightBit
+        (flatTwiceBy grows EightBit w h o (now (words .entry)) (valueAt EightBit (now (s .entry)) w))
+        w h (now (t .entry)) ⌝ }
+    ensures middle { λ _. ⌜
+        now (scratch .exit)
+        ≡ written EightBit (flatOf grows EightBit (now (s .entry)) w h o (now (words .entry)))
+        w h (now (scratch .entry)) ⌝ }
+{
+    flat_bytes(grows, s, scratch, w, h, o, words);
+    flat_bytes(!grows, &scratch[..], t, w, h, o, words);
+}
+
+// The same at either depth.
+pub fn flat_twice(
+    depth: Depth,
+    grows: bool,
+    s: &[u8],
+    t: &mut [u8],
+    scratch: &mut [u8],
+    w: usize,
+    h: usize,
+    o: Outline,
+    words: &[RowWord],
+)
+    requires { ⌜ Ready depth (length (now s)) (length (now words)) w h o ⌝ }
+    requires { ⌜ Holds depth (length (now t)) w h ⌝ }
+    requires { ⌜ Holds depth (length (now scratch)) w h ⌝ }
+    ensures bytes { λ _. ⌜
+        now (t .exit)
+        ≡ written depth
+        (flatTwiceBy grows depth w h o (now (words .entry)) (valueAt depth (now (s .entry)) w))
+        w h (now (t .entry)) ⌝ }
+    ensures middle { λ _. ⌜
+        now (scratch .exit)
+        ≡ written depth (flatOf grows depth (now (s .entry)) w h o (now (words .entry)))
+        w h (now (scratch .entry)) ⌝ }
+{
+    match depth {
+        Depth::OneBit => bits_twice(grows, s, t, scratch, w, h, o, words),
+        Depth::EightBit => bytes_twice(grows, s, t, scratch, w, h, o, words),
+    }
 }
 
 // Erosion or dilation of an 8-bit picture by a weighted element,
 // whose heights lie row after row in a slice of their own.
 pub fn weighted(
-    way: Way,
+    grows: bool,
+    s: &[u8],
+    t: &mut [u8],
     w: usize,
     h: usize,
-    source: &[u8],
-    e: Element,
+    o: Outline,
+    words: &[RowWord],
     heights: &[u8],
-    target: &mut [u8],
 )
-    requires { ⌜ Holds EightBit (length (now source)) w h ⌝ }
-    requires { ⌜ Holds EightBit (length (now target)) w h ⌝ }
-    requires { ⌜ Fitting e ⌝ }
+    requires { ⌜ Ready EightBit (length (now s)) (length (now words)) w h o ⌝ }
+    requires { ⌜ Holds EightBit (length (now t)) w h ⌝ }
     ensures { λ _. ⌜
-        now (target .exit)
+        now (t .exit)
         ≡ written EightBit
-        (weightedBy (growsOf way) w h e (now (heights .entry)) (valueAt EightBit (now (source .entry)) w))
-        w h (now (target .entry)) ⌝ }
+        (weightedBy grows w h o (now (words .entry)) (now (heights .entry)) (valueAt EightBit (now
+        (s .entry)) w))
+        w h (now (t .entry)) ⌝ }
 {
-    let words = e.rows;
-    let grows = rows::is_growing(way);
-    sweep_bytes(grows, source, target, w, h, e.outline, &words, heights);
+    byheight::sweep(grows, s, t, w, h, o, words, heights);
 }
 
-// The first into the scratch, and the other from there into the target.
+// The first into the scratch, and the other from there into t.
 pub fn weighted_twice(
-    first: Way,
+    grows: bool,
+    s: &[u8],
+    t: &mut [u8],
+    scratch: &mut [u8],
     w: usize,
     h: usize,
-    source: &[u8],
-    e: Element,
+    o: Outline,
+    words: &[RowWord],
     heights: &[u8],
-    target: &mut [u8],
-    scratch: &mut [u8],
 )
-    requires { ⌜ Holds EightBit (length (now source)) w h ⌝ }
-    requires { ⌜ Holds EightBit (length (now target)) w h ⌝ }
+    requires { ⌜ Ready EightBit (length (now s)) (length (now words)) w h o ⌝ }
+    requires { ⌜ Holds EightBit (length (now t)) w h ⌝ }
     requires { ⌜ Holds EightBit (length (now scratch)) w h ⌝ }
-    requires { ⌜ Fitting e ⌝ }
     ensures bytes { λ _. ⌜
-        now (target .exit)
+        now (t .exit)
         ≡ written EightBit
-        (weightedTwiceBy (growsOf first) w h e (now (heights .entry))
-        (valueAt EightBit (now (source .entry)) w)) w h
-        (now (target .entry)) ⌝ }
+        (weightedTwiceBy grows w h o (now (words .entry)) (now (heights .entry)) (valueAt EightBit (now
+        (s .entry)) w))
+        w h (now (t .entry)) ⌝ }
     ensures middle { λ _. ⌜
         now (scratch .exit)
         ≡ written EightBit
-        (weightedBy (growsOf first) w h e (now (heights .entry)) (valueAt EightBit (now (source .entry)) w))
-        w h
-        (now (scratch .entry)) ⌝ }
+        (weightedBy grows w h o (now (words .entry)) (now (heights .entry)) (valueAt EightBit (now
+        (s .entry)) w))
+        w h (now (scratch .entry)) ⌝ }
 {
-    weighted(first, w, h, source, e, heights, scratch);
-    weighted(other(first), w, h, &scratch[..], e, heights, target);
+    weighted(grows, s, scratch, w, h, o, words, heights);
+    weighted(!grows, &scratch[..], t, w, h, o, words, heights);
 }

@@ -6,10 +6,11 @@ use mathlib.Core.List.{List, [], _∷_, map}
 use mathlib.Core.Logic.{_⊎_, inl, inr}
 use native.Mathlib.Omega.{arith}
 use native.Mathlib.Nat.{le-refl}
-use borrow.Author.Tests.{leb-true, eqb-true}
-use lib.Dec.{leb, ltb, eqb, lit≤}
+use borrow.Author.Tests.{leb-true}
+use lib.Dec.{leb, ltb, lit≤}
 use lib.ListN.{length, getD, take}
-use lib.Seq.{getD-drop, getD-take}
+use lib.Seq.{getD-drop}
+use Rattle.basics.proofs.Lists.{getD-firsts}
 use Rattle.basics.proofs.Tests.{both}
 use Rattle.answer.specs.declared.Told.{Told}
 use Rattle.answer.specs.declared.Answer.the-variants.{Chain}
@@ -27,12 +28,12 @@ use Rattle.morphology.specs.Chain.{Fits, AllFit, Chained, mostLinkCells, mostLi
 use Rattle.morphology.specs.Check.{checkOf}
 use Rattle.morphology.proofs.Trim.{trim, trim-same, check-trim}
 use Rattle.reach.specs.declared.Link.{Link}
-use Rattle.reach.specs.Steps.Links.{linkOf, linkShape, shapesOf}
+use Rattle.reach.specs.Steps.Links.{firstRows, linkBy, linkOf, linkShape, shapesOf}
 use Rattle.chain.specs.declared.Links.{Links}
 use Rattle.chain.specs.Reading.{firstOf, restOf, counted, small}
 use Rattle.chain.specs.Reading.{linkTests, chainTests, checkTests, linksIn}
-use Rattle.chain.specs.Steps.Records.{elementsIn}
-use Rattle.chain.proofs.Reading.{none-after, some-after, Promised}
+use Rattle.chain.specs.Steps.Records.{heldIn}
+use Rattle.chain.proofs.Reading.{none-after, some-after, zero-none, Promised}
 
 -- ---- the links' refusals
 
@@ -40,14 +41,6 @@ numbered : (k : ℕ) (d : List ℕ) → Numbered (linkTests k d)
 unfolding linkTests
 numbered zero d = (lit≤ tt, tt)
 numbered (suc k) d = (lit≤ tt, (lit≤ tt, numbered k (restOf d)))
-
--- the number 0 is that of no refusal
-zero-none : (ts : List Test) → Numbered ts → eqb (refuse ts (plain 0) .number) 0 ≡ true
-    → refuse ts (plain 0) ≡ plain 0
-unfolding plain
-zero-none [] some e = refl
-zero-none ((true, m) ∷ ts) some e = let z = eqb-true m 0 e in absurd (omega (arith, some .0))
-zero-none ((false, m) ∷ ts) some e = zero-none ts (some .1) e
 
 -- what passed tells of each link
 pub passed-here : (b s : Bool) (ts : List Test) → refuse ((not b, 4) ∷ (not s, 6) ∷ ts) (plain 0) ≡ plain 0
@@ -114,11 +107,8 @@ record-fits d n f = record {
 }
 
 -- those of the links, as the check holds them
-abbrev heldIn : ℕ → List ℕ → List Link
-heldIn k d = map linkOf (elementsIn k d)
-
 held-fits : (d : List ℕ) (n : ℕ) → Fits n (shapeIn d) → Fits n (linkShape (linkOf (elementOf d)))
-unfolding shapeIn shapeOf elementOf linkOf
+unfolding shapeIn shapeOf elementOf linkBy firstRows
 held-fits d n f = record {
   few-columns = f .few-columns;
   few-rows = f .few-rows;
@@ -127,12 +117,12 @@ held-fits d n f = record {
 }
 
 records-fit : (k : ℕ) (d : List ℕ) (n : ℕ) → AllFit n (linksIn k d) → AllFit n (shapesOf (heldIn k d))
-unfolding linksIn elementsIn
+unfolding linksIn heldIn
 records-fit zero d n f = tt
 records-fit (suc k) d n f = (held-fits (firstOf d) n (f .0), records-fit k (restOf d) n (f .1))
 
 records-long : (k : ℕ) (d : List ℕ) → length (shapesOf (heldIn k d)) ≡ length (linksIn k d)
-unfolding linksIn elementsIn
+unfolding linksIn heldIn
 records-long zero d = refl
 records-long (suc k) d = ap suc (records-long k (restOf d))
 
@@ -145,11 +135,6 @@ records-chained element chain k C =
       some-links = subst (λ n. 1 ≤ n) (sym (records-long k chain)) (C .some-links);
       few-links = subst (λ n. n ≤ mostLinks) (sym (records-long k chain)) (C .few-links);
     }
-
-taken-map : (n : ℕ) (es : List Element) → take n (map linkOf es) ≡ map linkOf (take n es)
-taken-map zero es = refl
-taken-map (suc n) [] = refl
-taken-map (suc n) (e ∷ es) = ap (λ (ls : List Link). linkOf e ∷ ls) (taken-map n es)
 
 -- ---- the records that are read stand for the shapes of the bytes
 
@@ -176,15 +161,15 @@ shape-trim d b e =
 -- so do the links: the rows that are not held lie past the last of a small one
 held-trim : (d : List ℕ) → Bytes d → wellMade d ≡ true → highOf d ≤ mostLinkCells
     → trim (linkShape (linkOf (elementOf d))) ≡ trim (shapeIn d)
-unfolding shapeIn shapeOf elementOf linkOf
+unfolding shapeIn shapeOf elementOf linkBy firstRows
 held-trim d b e h =
     trim-same (linkShape (linkOf (elementOf d))) (cellAt d) (λ c r hc hr.
-    ap (λ word. cellOn word c) (getD-take mostLinkCells (elementOf d .rows) r 0 (omega arith))
+    ap (λ word. cellOn word c) (getD-firsts (λ r. getD (elementOf d .rows) r 0) mostLinkCells r (omega arith))
     ∙ cell-same d b (made-cells d e) c r hc hr)
 
 links-trim : (k : ℕ) (d : List ℕ) → Bytes d → refuse (linkTests k d) (plain 0) ≡ plain 0
     → map trim (shapesOf (heldIn k d)) ≡ map trim (linksIn k d)
-unfolding linkTests elementsIn linksIn
+unfolding linkTests heldIn linksIn
 links-trim zero d b e = refl
 links-trim (suc k) d b e =
     let p = passed-here (wellMade (firstOf d))
@@ -217,23 +202,20 @@ module _ (element chain : List ℕ) (k : ℕ) (after : Told) where
       links-opened = ap (λ b. refuse ((not b, 6) ∷ linkTests k chain) after) (sym right) ∙ opened
 
       module _ (ls : Links) (so : Promised chain k ls) where
-        pub check-refused : eqb (told (ls .answer) .number) 0 ≡ false
+        pub check-refused : isDone (told (ls .answer)) ≡ false
             → told (ls .answer) ≡ refuse (checkTests element k chain) after
-        unfolding plain
         check-refused e =
             so .answered
             ∙ some-after (linkTests k chain)
-            (λ z. false≢true (sym e ∙ ap (λ (t : Told). eqb (t .number) 0) (so .answered ∙ z))) after
+            (λ z. false≢true (sym e ∙ ap isDone (so .answered ∙ z) ∙ all-done)) after
             ∙ links-opened
 
-        module _ (e : eqb (told (ls .answer) .number) 0 ≡ true) where
+        module _ (e : isDone (told (ls .answer)) ≡ true) where
           passed : refuse (linkTests k chain) (plain 0) ≡ plain 0
-          passed =
-              zero-none (linkTests k chain) (numbered k chain)
-              (ap (λ (t : Told). eqb (t .number) 0) (sym (so .answered)) ∙ e)
+          passed = zero-none (linkTests k chain) (numbered k chain) (ap isDone (sym (so .answered)) ∙ e)
 
-          pub links-are : take k (ls .all) ≡ elementsIn k chain
-          links-are = so .elements (ap isDone passed ∙ all-done)
+          pub links-are : take k (ls .all) ≡ heldIn k chain
+          links-are = so .links (ap isDone passed ∙ all-done)
 
           nothing-refused : refuse (checkTests element k chain) (plain 0) ≡ plain 0
           unfolding checkTests chainTests
@@ -243,23 +225,19 @@ module _ (element chain : List ℕ) (k : ℕ) (after : Told) where
           pub check-passed : after ≡ refuse (checkTests element k chain) after
           check-passed = sym (none-after (linkTests k chain) (numbered k chain) passed after) ∙ links-opened
 
-          module _ (whole : Element) (is : whole ≡ elementOf element)
-              (held : List Link) (so-held : held ≡ map linkOf (ls .all)) where
-            held-are : take k held ≡ heldIn k chain
-            held-are = ap (take k) so-held ∙ taken-map k (ls .all) ∙ ap (map linkOf) links-are
-
-            pub chained : Chained (shapeOf whole) (shapesOf (take k held))
+          module _ (whole : Element) (is : whole ≡ elementOf element) where
+            pub chained : Chained (shapeOf whole) (shapesOf (take k (ls .all)))
             chained =
-                subst (λ (w : Element). Chained (shapeOf w) (shapesOf (take k held))) (sym is)
+                subst (λ (w : Element). Chained (shapeOf w) (shapesOf (take k (ls .all)))) (sym is)
                 (subst (λ (es : List Link). Chained (shapeOf (elementOf element)) (shapesOf es))
-                (sym held-are)
+                (sym links-are)
                 (records-chained element chain k (well-chained element chain k nothing-refused)))
 
             pub same-check : Bytes element → Bytes chain
-                → checkOf (shapeOf whole) (shapesOf (take k held))
+                → checkOf (shapeOf whole) (shapesOf (take k (ls .all)))
                 ≡ checkOf (shapeIn element) (linksIn k chain)
             same-check be bc =
-                ap₂ (λ (w : Element) (es : List Link). checkOf (shapeOf w) (shapesOf es)) is held-are
+                ap₂ (λ (w : Element) (es : List Link). checkOf (shapeOf w) (shapesOf es)) is links-are
                 ∙ check-trim (shapeOf (elementOf element)) (shapesOf (heldIn k chain))
                 ∙ ap₂ (λ E Bs. checkOf E Bs) (shape-trim element be made) (links-trim k chain bc passed)
                 ∙ sym (check-trim (shapeIn element) (linksIn k chain))

@@ -1,31 +1,33 @@
 -- Reading links one after another: where each begins and ends,
--- what is refused first, and the elements that are read.
+-- what is refused first, and the links that are read.
 use Prim.Native.Nat.{ℕ, suc, _+_, _-_, _≤_, _<_}
 use mathlib.Core.Path.{_≡_, refl, sym, ap, ap₂, _∙_, subst}
-use mathlib.Core.Bool.{Bool, true, false, not, cond, false≢true}
+use mathlib.Core.Bool.{Bool, true, false, not, false≢true}
 use mathlib.Core.List.{List, [], _∷_, _++_, append-assoc, append-nil}
 use native.Mathlib.Omega.{arith}
 use native.Mathlib.Nat.{sub-zero, add-sub-cancel-left}
 use native.Mathlib.Numerals.{add-one}
-use borrow.Author.Tests.{le-ltb, lt-ltb}
-use lib.Dec.{ltb, eqb}
+use borrow.Author.Tests.{le-ltb, lt-ltb, eqb-true}
+use lib.Dec.{ltb, eqb, lit≤}
 use lib.ListN.{length, take, drop, set, length-drop, length-set}
 use lib.Seq.{drop-drop, take-suc-set}
 use Rattle.basics.proofs.Lists.{tail-is}
 use Rattle.answer.specs.declared.Told.{Told}
+use Rattle.answer.specs.declared.Answer.{Answer}
 use Rattle.answer.specs.declared.Answer.the-variants.{Done, Shape, Chain}
 use Rattle.answer.specs.Answer.{told, plain, isDone}
 use Rattle.answer.specs.Refuse.{Test, refuse}
 use Rattle.answer.proofs.Order.{Numbered, number-of}
-use Rattle.answer.proofs.Lent.{not-done}
+use Rattle.answer.proofs.Lent.{not-done, all-done}
 use Rattle.element.specs.declared.Element.{Element}
-use Rattle.element.specs.declared.Read.{Read}
 use Rattle.element.specs.Descriptor.{wideOf, highOf, wellMade, descriptorLength}
-use Rattle.element.specs.Record.{elementOf, nothing}
+use Rattle.element.specs.Record.{elementOf}
+use Rattle.reach.specs.declared.Link.{Link}
+use Rattle.reach.specs.Steps.Links.{linkOf}
 use Rattle.morphology.specs.Chain.{mostLinks}
 use Rattle.chain.specs.declared.Links.{Links}
 use Rattle.chain.specs.Reading.{firstOf, restOf, small, linkTests}
-use Rattle.chain.specs.Steps.Records.{elementsIn, ReadAs}
+use Rattle.chain.specs.Steps.Records.{LinkAs, heldIn, ReadAs}
 
 -- ---- refusals
 
@@ -43,35 +45,49 @@ some-after [] n after = absurd (n refl)
 some-after ((true, m) ∷ ts) n after = refl
 some-after ((false, m) ∷ ts) n after = some-after ts n after
 
--- what a reader of one descriptor answers
-abbrev pub ReadOf : List ℕ → Read → Type 0
-ReadOf d r =
-    (told (r .answer) ≡ refuse ((not (wellMade d), 4) ∷ []) (plain 0))
-    × (r .element ≡ cond (wellMade d) (elementOf d) nothing)
+-- the number 0 is that of no refusal
+pub zero-none : (ts : List Test) → Numbered ts → isDone (refuse ts (plain 0)) ≡ true
+    → refuse ts (plain 0) ≡ plain 0
+unfolding plain
+zero-none [] some e = refl
+zero-none ((true, m) ∷ ts) some e = let z = eqb-true m 0 e in absurd (omega (arith, some .0))
+zero-none ((false, m) ∷ ts) some e = zero-none ts (some .1) e
 
--- it is done exactly where the descriptor is well made
-module _ (d : List ℕ) (r : Read) (so : ReadOf d r) where
-  pub read-made : eqb (told (r .answer) .number) 0 ≡ true → wellMade d ≡ true
-  unfolding plain
-  read-made e = by (wellMade d) (so .0)
-    where
-      by : (b : Bool) → told (r .answer) ≡ refuse ((not b, 4) ∷ []) (plain 0) → b ≡ true
-      by true t = refl
-      by false t = absurd (false≢true (sym (ap (λ (t : Told). eqb (t .number) 0) t) ∙ e))
+-- one descriptor, by what is met first
+module _ (d : List ℕ) where
+  pub one-unmade : wellMade d ≡ false → (l : Link) → LinkAs d (told Shape) l
+  unfolding told
+  one-unmade e l =
+      record {
+        answered = ap (λ b. refuse ((not b, 4) ∷ (not (small (wideOf d) (highOf d)), 6) ∷ []) (plain 0))
+            (sym e);
+        held = λ z. absurd (false≢true (sym (not-done 4 (omega arith)) ∙ z));
+      }
 
-  pub read-unmade : eqb (told (r .answer) .number) 0 ≡ false → wellMade d ≡ false
-  unfolding plain
-  read-unmade e = by (wellMade d) (so .0)
-    where
-      by : (b : Bool) → told (r .answer) ≡ refuse ((not b, 4) ∷ []) (plain 0) → b ≡ false
-      by true t = absurd (false≢true (sym e ∙ ap (λ (t : Told). eqb (t .number) 0) t))
-      by false t = refl
+  module _ (made : wellMade d ≡ true) (s : Bool) (es : small (wideOf d) (highOf d) ≡ s) where
+    two : refuse ((not true, 4) ∷ (not s, 6) ∷ []) (plain 0)
+        ≡ refuse ((not (wellMade d), 4) ∷ (not (small (wideOf d) (highOf d)), 6) ∷ []) (plain 0)
+    two = ap₂ (λ x y. refuse ((not x, 4) ∷ (not y, 6) ∷ []) (plain 0)) (sym made) (sym es)
 
-  pub unmade-told : wellMade d ≡ false → told (r .answer) ≡ plain 4
-  unmade-told e = so .0 ∙ ap (λ b. refuse ((not b, 4) ∷ []) (plain 0)) e
+  pub one-wide : wellMade d ≡ true → small (wideOf d) (highOf d) ≡ false → (l : Link) → LinkAs d
+      (told Chain) l
+  unfolding told
+  one-wide made e l =
+      record {
+        answered = two made false e;
+        held = λ z. absurd (false≢true (sym (not-done 6 (omega arith)) ∙ z));
+      }
 
-  pub made-element : wellMade d ≡ true → r .element ≡ elementOf d
-  made-element e = so .1 ∙ ap (λ b. cond b (elementOf d) nothing) e
+  pub one-held : wellMade d ≡ true → small (wideOf d) (highOf d) ≡ true → (l : Link)
+      → l ≡ linkOf (elementOf d) → LinkAs d (told Done) l
+  unfolding told
+  one-held made e l q = record { answered = two made true e; held = λ z. q }
+
+-- its size, from the element that was read
+pub size-of : (d : List ℕ) (e : Element) → e ≡ elementOf d → (s : Bool)
+    → small (e .outline .w) (e .outline .h) ≡ s → small (wideOf d) (highOf d) ≡ s
+unfolding elementOf
+size-of d e q s z = sym (ap (λ (e : Element). small (e .outline .w) (e .outline .h)) q) ∙ z
 
 -- ---- one link after another
 
@@ -94,34 +110,34 @@ module _ (d : List ℕ) (at n : ℕ) (inside : at ≤ length d)
   rest-is = sym (drop-drop n at d) ∙ ap (λ m. drop m (drop at d)) len-is
 
 -- link i begins at the place `at`: the refusal from here on is the refusal,
--- and the elements so far with those from here on are all
-pub record Onward (d : List ℕ) (k : ℕ) (all : List Element) (i at : ℕ) : Type 0 where
+-- and the links so far with those from here on are all
+pub record Onward (d : List ℕ) (k : ℕ) (all : List Link) (i at : ℕ) : Type 0 where
   pub inside : at ≤ length d
   pub long : length all ≡ mostLinks
   pub refusal : refuse (linkTests (k - i) (drop at d)) (plain 0) ≡ refuse (linkTests k d) (plain 0)
-  pub elements : take i all ++ elementsIn (k - i) (drop at d) ≡ elementsIn k d
+  pub links : take i all ++ heldIn (k - i) (drop at d) ≡ heldIn k d
 
-pub onward-start : (d : List ℕ) (k : ℕ) (all : List Element) → length all ≡ mostLinks → Onward d k all 0 0
+pub onward-start : (d : List ℕ) (k : ℕ) (all : List Link) → length all ≡ mostLinks → Onward d k all 0 0
 onward-start d k all l =
     record {
       inside = omega arith;
       long = l;
       refusal = ap (λ n. refuse (linkTests n d) (plain 0)) (sub-zero k);
-      elements = ap (λ n. elementsIn n d) (sub-zero k);
+      links = ap (λ n. heldIn n d) (sub-zero k);
     }
 
--- a refusal promises no elements
+-- a refusal promises no links
 pub refused-as : (t : Told) (k : ℕ) (d : List ℕ) (ls : Links) → told (ls .answer) ≡ t
     → isDone (told (ls .answer)) ≡ false
     → ReadAs t k d ls
 refused-as t k d ls e q =
-    record { answered = e; elements = λ z. absurd (false≢true (sym q ∙ ap isDone e ∙ z)) }
+    record { answered = e; links = λ z. absurd (false≢true (sym q ∙ ap isDone e ∙ z)) }
 
 -- what a chain's reading promises
 abbrev pub Promised : List ℕ → ℕ → Links → Type 0
 Promised d k r = ReadAs (refuse (linkTests k d) (plain 0)) k d r
 
-module _ (d : List ℕ) (k : ℕ) (all : List Element) (i at : ℕ) (o : Onward d k all i at) where
+module _ (d : List ℕ) (k : ℕ) (all : List Link) (i at : ℕ) (o : Onward d k all i at) where
   module _ (more : i < k) (n : ℕ) (en : n ≡ descriptorLength (take (length d - at) (drop at d))) where
     pub end-in : at + n ≤ length d
     end-in = ends-in d at n (o .inside) en
@@ -145,56 +161,51 @@ module _ (d : List ℕ) (k : ℕ) (all : List Element) (i at : ℕ) (o : Onward 
         (sym eb) (sym es)
         ∙ ap (λ m. refuse (linkTests m (drop at d)) (plain 0)) left ∙ o .refusal
 
-    module _ (r : Read) (so : ReadOf (take (at + n - at) (drop at d)) r) where
-      read-first : ReadOf (firstOf (drop at d)) r
-      read-first = subst (λ l. ReadOf l r) (first-is d at n (o .inside) en) so
+    module _ (answer : Told) (link : Link)
+        (so : LinkAs (take (at + n - at) (drop at d)) answer link) where
+      one : LinkAs (firstOf (drop at d)) answer link
+      one = subst (λ l. LinkAs l answer link) (first-is d at n (o .inside) en) so
 
-      -- a link that is not well made
-      pub link-unmade : eqb (told (r .answer) .number) 0 ≡ false
-          → Promised d k (record { answer = r .answer; all = all })
-      link-unmade e =
-          let b = read-unmade (firstOf (drop at d)) r read-first e in
-          let t = unmade-told (firstOf (drop at d)) r read-first b in
-          refused-as _ k d _
-          (t ∙ one-link false (small (wideOf (firstOf (drop at d))) (highOf (firstOf (drop at d)))) b refl) e
+      abbrev own : List Test
+      own =
+          (not (wellMade (firstOf (drop at d))), 4)
+          ∷ (not (small (wideOf (firstOf (drop at d))) (highOf (firstOf (drop at d)))), 6) ∷ []
 
-      module _ (e : eqb (told (r .answer) .number) 0 ≡ true) where
-        made : wellMade (firstOf (drop at d)) ≡ true
-        made = read-made (firstOf (drop at d)) r read-first e
+      some : Numbered own
+      some = (lit≤ tt, (lit≤ tt, tt))
 
-        element-is : r .element ≡ elementOf (firstOf (drop at d))
-        element-is = made-element (firstOf (drop at d)) r read-first made
+      -- what follows a link that is refused is not asked
+      module _ (e : isDone answer ≡ false) (a : Answer) (ea : told a ≡ answer) where
+        pub link-refused : Promised d k (record { answer = a; all = all })
+        link-refused =
+            refused-as _ k d _
+            (ea ∙ one .answered
+            ∙ some-after own (λ z. false≢true (sym e ∙ ap isDone (one .answered ∙ z) ∙ all-done)) _
+            ∙ one-link _ _ refl refl) (ap isDone ea ∙ e)
 
-        size-is : (s : Bool) → small (r .element .outline .w) (r .element .outline .h) ≡ s
-            → small (wideOf (firstOf (drop at d))) (highOf (firstOf (drop at d))) ≡ s
-        unfolding elementOf
-        size-is s q = sym (ap (λ (e : Element). small (e .outline .w) (e .outline .h)) element-is) ∙ q
+      -- one that is taken
+      module _ (e : isDone answer ≡ true) where
+        passes : refuse own (plain 0) ≡ plain 0
+        passes = zero-none own some (ap isDone (sym (one .answered)) ∙ e)
 
-        -- one that is above 8 by 8
-        pub link-wide : small (r .element .outline .w) (r .element .outline .h) ≡ false
-            → Promised d k (record { answer = Chain; all = all })
-        unfolding told
-        link-wide s =
-            refused-as _ k d _ (one-link true false made (size-is false s)) (not-done 6 (omega arith))
-
-        -- one that is taken
-        pub link-taken : small (r .element .outline .w) (r .element .outline .h) ≡ true → k ≤ mostLinks
-            → Onward d k (set all i (r .element)) (i + 1) (at + n)
-        unfolding elementsIn
-        link-taken s few =
+        pub link-taken : k ≤ mostLinks → Onward d k (set all i link) (i + 1) (at + n)
+        unfolding heldIn
+        link-taken few =
             record {
               inside = end-in;
-              long = length-set all i (r .element) ∙ o .long;
+              long = length-set all i link ∙ o .long;
               refusal =
                   ap₂ (λ m l. refuse (linkTests m l) (plain 0)) (sym same) rest-here
-                  ∙ one-link true true made (size-is true s);
-              elements =
-                  ap₂ (λ a b. a ++ b) (ap (λ m. take m (set all i (r .element))) (add-one i)
-                  ∙ take-suc-set all i (r .element) (in-array (o .long)))
-                  (ap₂ (λ m l. elementsIn m l) (sym same) rest-here)
-                  ∙ append-assoc (take i all) (r .element ∷ []) (elementsIn (k - suc i) (restOf (drop at d)))
-                  ∙ ap (λ e. take i all ++ (e ∷ elementsIn (k - suc i) (restOf (drop at d)))) element-is
-                  ∙ ap (λ m. take i all ++ elementsIn m (drop at d)) left ∙ o .elements;
+                  ∙ sym (none-after own some passes
+                  (refuse (linkTests (k - suc i) (restOf (drop at d))) (plain 0)))
+                  ∙ one-link _ _ refl refl;
+              links =
+                  ap₂ (λ a b. a ++ b) (ap (λ m. take m (set all i link)) (add-one i)
+                  ∙ take-suc-set all i link (in-array (o .long)))
+                  (ap₂ (λ m l. heldIn m l) (sym same) rest-here)
+                  ∙ append-assoc (take i all) (link ∷ []) (heldIn (k - suc i) (restOf (drop at d)))
+                  ∙ ap (λ e. take i all ++ (e ∷ heldIn (k - suc i) (restOf (drop at d)))) (one .held e)
+                  ∙ ap (λ m. take i all ++ heldIn m (drop at d)) left ∙ o .links;
             }
           where
             in-array : length all ≡ mostLinks → i < length all
@@ -219,11 +230,11 @@ module _ (d : List ℕ) (k : ℕ) (all : List Element) (i at : ℕ) (o : Onward 
         (not-done 4 (omega arith))
 
     pub links-read : length d ≤ at → Promised d k (record { answer = Done; all = all })
-    unfolding told elementsIn
+    unfolding told heldIn
     links-read l =
         record {
           answered = over false (le-ltb 0 (length (drop at d)) (omega (arith, length-drop at d)));
-          elements =
+          links =
               λ z. ap (λ m. take m all) last ∙ sym (append-nil (take i all))
-              ∙ ap (λ m. take i all ++ elementsIn m (drop at d)) none ∙ o .elements;
+              ∙ ap (λ m. take i all ++ heldIn m (drop at d)) none ∙ o .links;
         }

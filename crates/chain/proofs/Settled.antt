@@ -20,7 +20,7 @@ use Rattle.chain.proofs.check_chain.Reads as check-chain
 pub is-counted-settled : Settles 0 is-counted-kinds.ps is-counted-kinds.r is-counted.Learnt
 is-counted-settled κs a x y s t p q = settled p q
 
--- the answers; and the elements, where the answer is done
+-- the answers; and the links, where the answer is done
 pub checked-links-settled : (κs : Lfts 2) (a : Dens κs checked-links-kinds.ps)
     (x y : resT checked-links-kinds.r κs .Denot)
     (s t : AtExit (endedOf 2 checked-links-kinds.ps checked-links-kinds.r) κs)
@@ -29,7 +29,7 @@ pub checked-links-settled : (κs : Lfts 2) (a : Dens κs checked-links-kinds.ps)
     × (isDone (told (x .answer)) ≡ true → take (a .1 .0) (x .all) ≡ take (a .1 .0) (y .all))
 checked-links-settled κs a x y s t p q = (
   same-answer (x .answer) (y .answer) _ (p .answered) (q .answered),
-  λ z. let done = ap isDone (sym (p .answered)) ∙ z in p .elements done ∙ sym (q .elements done),
+  λ z. let done = ap isDone (sym (p .answered)) ∙ z in p .links done ∙ sym (q .links done),
 )
 
 pub check-chain-settled : Settles 2 check-chain-kinds.ps check-chain-kinds.r check-chain.Learnt

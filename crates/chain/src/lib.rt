@@ -1,6 +1,6 @@
 // Chains as descriptors: read one after another, and checked against the whole element.
 use answer::Answer;
-use element::Element;
+use reach::Link;
 use reach::MOST_LINK_CELLS;
 use reach::MOST_LINKS;
 ghost use mathlib.Core.Path.{_≡_};
@@ -9,12 +9,18 @@ ghost use Rattle.answer.specs.Answer.{told, plain};
 ghost use Rattle.answer.specs.Refuse.{refuse};
 ghost use Rattle.morphology.specs.Chain.{mostLinks};
 ghost use Rattle.chain.specs.Reading.{counted, small, linkTests, checked};
-ghost use Rattle.chain.specs.Steps.Records.{ReadAs};
+ghost use Rattle.chain.specs.Steps.Records.{LinkAs, ReadAs};
 
-// What became of a chain's links: the first refusal, or done and the elements.
+// What became of a chain's links: the first refusal, or done and the links.
 pub struct Links {
     pub answer: Answer,
-    pub all: [Element; MOST_LINKS],
+    pub all: [Link; MOST_LINKS],
+}
+
+// What became of one.
+struct OneLink {
+    answer: Answer,
+    link: Link,
 }
 
 // The number of links is one of a chain.
@@ -37,30 +43,51 @@ fn is_small(w: usize, h: usize) -> bool
     h <= MOST_LINK_CELLS
 }
 
-// k links, one after another, and nothing after them, into the array that is handed over.
-fn read_links(none: [Element; MOST_LINKS], d: &[u8], k: usize) -> Links
+// One link. The element that is read of it is held here alone: a link has an eighth of its rows.
+fn read_link(d: &[u8]) -> OneLink
+    ensures { λ r. ⌜ LinkAs (now (d .entry)) (told (r .answer)) (r .link) ⌝ }
+{
+    let link = reach::no_link();
+    let made = descriptor::well_made(d);
+    if !made {
+        return OneLink {
+            answer: Answer::Shape,
+            link,
+        };
+    }
+    let e = reader::element_at(d);
+    let o = e.outline;
+    if !is_small(o.w, o.h) {
+        return OneLink {
+            answer: Answer::Chain,
+            link,
+        };
+    }
+    let held = reach::link_of(o, &e.rows);
+    OneLink {
+        answer: Answer::Done,
+        link: held,
+    }
+}
+
+// k links, one after another, and nothing after them.
+fn read_links(d: &[u8], k: usize) -> Links
     requires { ⌜ k ≤ mostLinks ⌝ }
     ensures { λ r. ⌜ ReadAs (refuse (linkTests k (now (d .entry))) (plain 0)) k (now (d .entry)) r ⌝ }
 {
-    let mut all = none;
+    let none = reach::no_link();
+    let mut all = [none; MOST_LINKS];
     let mut i = 0;
     let mut at = 0;
     while i < k {
         let end = at + element::descriptor_len(&d[at..]);
-        let read = reader::read_element(&d[at..end]);
+        let read = read_link(&d[at..end]);
         let answer = read.answer;
-        let e = read.element;
-        let outline = e.outline;
+        let link = read.link;
         if !answer::is_done(answer) {
             return Links { answer, all };
         }
-        if !is_small(outline.w, outline.h) {
-            return Links {
-                answer: Answer::Chain,
-                all,
-            };
-        }
-        all[i] = e;
+        all[i] = link;
         at = end;
         i += 1;
     }
@@ -76,39 +103,42 @@ fn read_links(none: [Element; MOST_LINKS], d: &[u8], k: usize) -> Links
     }
 }
 
-// The check, and the elements that it read of the links: where it is done, the first `links` of them.
+// The check, and the links that it read: where it is done, the first `links` of them.
 // Nothing calls itself: its stack is the same whatever the input (docs/HOST.md has it),
 // and it takes some milliseconds for the largest.
 pub fn checked_links(element: &[u8], links: usize, chain: &[u8]) -> Links
     ensures { λ r. ⌜ ReadAs (checked (now (element .entry)) links (now (chain .entry)))
         links (now (chain .entry)) r ⌝ }
 {
-    let whole = reader::read_element(element);
-    let answer = whole.answer;
-    let e = whole.element;
-    let none = [e; MOST_LINKS];
-    if !answer::is_done(answer) {
-        return Links { answer, all: none };
+    let none = reach::no_link();
+    let all = [none; MOST_LINKS];
+    let made = descriptor::well_made(element);
+    if !made {
+        return Links {
+            answer: Answer::Shape,
+            all,
+        };
     }
     if !is_counted(links) {
         return Links {
             answer: Answer::Chain,
-            all: none,
-        };
-    }
-    let read = read_links(none, chain, links);
-    let refusal = read.answer;
-    let all = read.all;
-    if !answer::is_done(refusal) {
-        return Links {
-            answer: refusal,
             all,
         };
     }
-    let held = reach::links_of(all);
+    let read = read_links(chain, links);
+    let refusal = read.answer;
+    let held = read.all;
+    if !answer::is_done(refusal) {
+        return Links {
+            answer: refusal,
+            all: held,
+        };
+    }
+    let e = reader::element_at(element);
+    let o = e.outline;
     Links {
-        answer: faults::check(e, held, links),
-        all,
+        answer: faults::check(o, &e.rows, held, links),
+        all: held,
     }
 }
 

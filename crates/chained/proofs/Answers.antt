@@ -20,7 +20,7 @@ use Rattle.judge.proofs.Admitted.{admitted, holds}
 use Rattle.morphology.specs.Chain.{mostLinks}
 use Rattle.chain.specs.declared.Links.{Links}
 use Rattle.chain.specs.Reading.{linkTests, chainTests, checkTests, counted, checked}
-use Rattle.chain.specs.Steps.Records.{elementsIn, ReadAs}
+use Rattle.chain.specs.Steps.Records.{heldIn, ReadAs}
 use Rattle.chain.proofs.Checking.{check-numbered, few-links}
 use Rattle.chained.specs.Run.{runAnswer, firstAfter, secondAfter}
 use Rattle.chained.specs.Steps.Buffers.{resultsBy, madeBy, Going}
@@ -75,15 +75,15 @@ module _ (depth : Depth) (grows : Bool) (w h : ℕ)
     unfolding checkTests chainTests
     few = few-links links (not-false (counted links) (known .made .1 .0))
 
-    elements-are : take links (read .all) ≡ elementsIn links chain
-    elements-are = ec .elements (known .accepted)
+    links-are : take links (read .all) ≡ heldIn links chain
+    links-are = ec .links (known .accepted)
 
     pub going : Going depth w h (length source) (read .all) links (length first) (length second)
     going =
         let p = known .picture in
         record {
           few = few;
-          fitting = fitting-here depth w h source chain (read .all) links bytes links-made elements-are;
+          fitting = fitting-here depth w h source chain (read .all) links bytes links-made links-are;
           source-holds = holds Free depth w h source (length source) (p .sized) (omega (arith, p .whole));
           first-holds = holds Free depth w h source (length first) (p .sized) (omega (arith, p .roomy));
           second-holds = holds Free depth w h source (length second) (p .sized) (omega (arith, p .roomy));
@@ -97,7 +97,7 @@ module _ (depth : Depth) (grows : Bool) (w h : ℕ)
     first-left u e =
         made-by first _ (told no) (told no) refl u done
         (e ∙ first-alike depth w h _ _ links first
-        (made-alike depth w h source chain (read .all) links bytes links-made elements-are grows))
+        (made-alike depth w h source chain (read .all) links bytes links-made links-are grows))
 
     pub second-left : (u : List ℕ)
         → u ≡ secondAfter depth w h (madeBy grows depth w h source (read .all)) links second
@@ -106,4 +106,4 @@ module _ (depth : Depth) (grows : Bool) (w h : ℕ)
     second-left u e =
         made-by second _ (told no) (told no) refl u done
         (e ∙ second-alike depth w h _ _ links second
-        (made-alike depth w h source chain (read .all) links bytes links-made elements-are grows))
+        (made-alike depth w h source chain (read .all) links bytes links-made links-are grows))

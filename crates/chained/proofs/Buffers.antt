@@ -15,36 +15,34 @@ use Rattle.picture.specs.Points.{valueAt}
 use Rattle.picture.specs.Bytes.{Picture, bytesOf, written}
 use Rattle.picture.proofs.Points.{written-same}
 use Rattle.picture.proofs.Bytes.{bytes-long}
-use Rattle.element.specs.declared.Element.{Element}
-use Rattle.element.specs.Record.{shapeOf}
 use Rattle.morphology.specs.Operations.{flat}
 use Rattle.morphology.specs.Order.{Alike}
-use Rattle.apply.specs.Steps.Applied.{flatBy}
 use Rattle.apply.proofs.Twice.{from-written, still-holds}
-use Rattle.reach.specs.Steps.Links.{noLink}
+use Rattle.reach.specs.declared.Link.{Link}
+use Rattle.reach.specs.Steps.Links.{emptyLink, linkShape}
 use Rattle.chained.specs.Run.{inFirst, inSecond, holding, firstAfter, secondAfter}
-use Rattle.chained.specs.Steps.Buffers.{madeBy, appliedTo, firstBy, secondBy}
+use Rattle.chained.specs.Steps.Buffers.{byLink, madeBy, appliedTo, firstBy, secondBy}
 use Rattle.chained.proofs.Results.{made-small}
 
 -- ---- one link, by the number of links before it
-module _ (grows : Bool) (depth : Depth) (w h i : ℕ) (e : Element) (source first second u : List ℕ) where
+module _ (grows : Bool) (depth : Depth) (w h i : ℕ) (e : Link) (source first second u : List ℕ) where
   abbrev Left : List ℕ → List ℕ → Type 0
   Left one two =
       (one ≡ firstBy grows depth w h i e source first second)
       × (two ≡ secondBy grows depth w h i e first second)
 
-  pub from-source : i ≡ 0 → u ≡ written depth (flatBy grows depth w h e (valueAt depth source w)) w h first
+  pub from-source : i ≡ 0 → u ≡ written depth (byLink grows depth w h e (valueAt depth source w)) w h first
       → Left u second
   unfolding firstBy secondBy appliedTo
   from-source z q = (simp (eq-eqb i 0 z) q, simp (eq-eqb i 0 z))
 
   pub from-first : (i ≡ 0 → ⊥) → i % 2 ≡ 1
-      → u ≡ written depth (flatBy grows depth w h e (valueAt depth first w)) w h second → Left first u
+      → u ≡ written depth (byLink grows depth w h e (valueAt depth first w)) w h second → Left first u
   unfolding firstBy secondBy appliedTo
   from-first z o q = (simp (ne-eqb i 0 z, eq-eqb (i % 2) 1 o), simp (ne-eqb i 0 z, eq-eqb (i % 2) 1 o) q)
 
   pub from-second : (i ≡ 0 → ⊥) → (i % 2 ≡ 1 → ⊥)
-      → u ≡ written depth (flatBy grows depth w h e (valueAt depth second w)) w h first → Left u second
+      → u ≡ written depth (byLink grows depth w h e (valueAt depth second w)) w h first → Left u second
   unfolding firstBy secondBy appliedTo
   from-second z o q = (simp (ne-eqb i 0 z, ne-eqb (i % 2) 1 o) q, simp (ne-eqb i 0 z, ne-eqb (i % 2) 1 o))
 
@@ -179,7 +177,7 @@ module _ (depth : Depth) (w h : ℕ) (result other : ℕ → Picture) (k : ℕ) 
 -- ---- the loop
 
 -- after i links
-pub record After (grows : Bool) (depth : Depth) (w h : ℕ) (source : List ℕ) (all : List Element)
+pub record After (grows : Bool) (depth : Depth) (w h : ℕ) (source : List ℕ) (all : List Link)
     (first₀ second₀ first second : List ℕ) (i : ℕ) : Type 0 where
   pub one : first ≡ firstAfter depth w h (madeBy grows depth w h source all) i first₀
   pub two : second ≡ secondAfter depth w h (madeBy grows depth w h source all) i second₀
@@ -187,7 +185,7 @@ pub record After (grows : Bool) (depth : Depth) (w h : ℕ) (source : List ℕ) 
   pub two-long : length second ≡ length second₀
 
 module _ (grows : Bool) (depth : Depth) (w h : ℕ) (source : List ℕ)
-    (all : List Element) (first₀ second₀ : List ℕ) where
+    (all : List Link) (first₀ second₀ : List ℕ) where
   abbrev result : ℕ → Picture
   result = madeBy grows depth w h source all
 
@@ -203,7 +201,7 @@ module _ (grows : Bool) (depth : Depth) (w h : ℕ) (source : List ℕ)
     pub second-fits : Holds depth (length second₀) w h → Holds depth (length second) w h
     second-fits p = still-holds depth w h (length second₀) (length second) (a .two-long) p
 
-    next : flatBy grows depth w h (getD all i noLink) (result i) ≡ result (i + 1)
+    next : byLink grows depth w h (getD all i emptyLink) (result i) ≡ result (i + 1)
     unfolding madeBy
     next = ap result (sym (add-one i))
 
@@ -215,23 +213,23 @@ module _ (grows : Bool) (depth : Depth) (w h : ℕ) (source : List ℕ)
     second-over A = ap (written depth A w h) (a .two) ∙ over-second depth w h result i second₀ A
 
     -- from the source, and from a buffer that holds result i
-    first-made : (t u : List ℕ) → i ≡ 0 → u ≡ appliedTo grows depth w h (getD all i noLink) source t
+    first-made : (t u : List ℕ) → i ≡ 0 → u ≡ appliedTo grows depth w h (getD all i emptyLink) source t
         → u ≡ written depth (result (i + 1)) w h t
     unfolding appliedTo madeBy
     first-made t u z e =
-        e ∙ ap (λ j. written depth (flatBy grows depth w h (getD all i noLink) (result j)) w h t) (sym z)
+        e ∙ ap (λ j. written depth (byLink grows depth w h (getD all i emptyLink) (result j)) w h t) (sym z)
         ∙ ap (λ (A : Picture). written depth A w h t) next
 
     next-made : (s s₀ t u : List ℕ) → s ≡ written depth (result i) w h s₀
-        → u ≡ appliedTo grows depth w h (getD all i noLink) s t → u ≡ written depth (result (i + 1)) w h t
+        → u ≡ appliedTo grows depth w h (getD all i emptyLink) s t → u ≡ written depth (result (i + 1)) w h t
     unfolding appliedTo
     next-made s s₀ t u es e =
-        from-written depth w h (shapeOf (getD all i noLink)) (result i) s s₀ t u
+        from-written depth w h (linkShape (getD all i emptyLink)) (result i) s s₀ t u
         (λ bit. made-small depth w h source all bit grows i) es grows flat e
         ∙ ap (λ (A : Picture). written depth A w h t) next
 
-    pub after-more : (u v : List ℕ) → u ≡ firstBy grows depth w h i (getD all i noLink) source first second
-        → v ≡ secondBy grows depth w h i (getD all i noLink) first second
+    pub after-more : (u v : List ℕ) → u ≡ firstBy grows depth w h i (getD all i emptyLink) source first second
+        → v ≡ secondBy grows depth w h i (getD all i emptyLink) first second
         → length u ≡ length first → length v ≡ length second
         → After grows depth w h source all first₀ second₀ u v (i + 1)
     unfolding firstBy secondBy
@@ -239,9 +237,10 @@ module _ (grows : Bool) (depth : Depth) (w h : ℕ) (source : List ℕ)
         record { one = both .0; two = both .1; one-long = lu ∙ a .one-long; two-long = lv ∙ a .two-long }
       where
         by : (b c : Bool) → eqb i 0 ≡ b → eqb (i % 2) 1 ≡ c
-            → u ≡ cond b (appliedTo grows depth w h (getD all i noLink) source first)
-            (cond c first (appliedTo grows depth w h (getD all i noLink) second first))
-            → v ≡ cond b second (cond c (appliedTo grows depth w h (getD all i noLink) first second) second)
+            → u ≡ cond b (appliedTo grows depth w h (getD all i emptyLink) source first)
+            (cond c first (appliedTo grows depth w h (getD all i emptyLink) second first))
+            → v ≡ cond b second (cond c (appliedTo grows depth w h
+            (getD all i emptyLink) first second) second)
             → (u ≡ firstAfter depth w h result (i + 1) first₀)
             × (v ≡ secondAfter depth w h result (i + 1) second₀)
         by true c z o eu ev =

@@ -1,66 +1,64 @@
 // Chained erosion and dilation as a user calls them: each link in order,
 // into one of two work buffers and then the other.
 use answer::Answer;
-use element::Element;
 use judge::Padding;
 use picture::Depth;
+use reach::Link;
 use reach::MOST_LINKS;
-use rows::Way;
 ghost use mathlib.Core.Path.{_≡_};
 ghost use Prim.Native.Nat.{min};
 ghost use lib.ListN.{length};
 ghost use Rattle.answer.specs.Answer.{told};
 ghost use Rattle.answer.specs.Lent.{unlessRefused};
 ghost use Rattle.picture.specs.Frame.{Holds};
-ghost use Rattle.rows.specs.Steps.Ways.{growsOf};
-ghost use Rattle.apply.specs.Steps.Applied.{Fitting};
 ghost use Rattle.chained.specs.Run.{runAnswer, eroded, dilated, firstAfter, secondAfter};
-ghost use Rattle.chained.specs.Steps.Buffers.{resultsBy, madeBy, firstBy, secondBy, Going};
+ghost use Rattle.chained.specs.Steps.Buffers.{Fit, resultsBy, madeBy, firstBy, secondBy, Going};
 
 // The link after i others, from what the last of them left into the other buffer;
 // the first link reads the source.
 fn link(
     depth: Depth,
-    way: Way,
+    grows: bool,
     w: usize,
     h: usize,
     i: usize,
     source: &[u8],
-    e: Element,
+    e: Link,
     first: &mut [u8],
     second: &mut [u8],
 )
     requires { ⌜ Holds depth (length (now source)) w h ⌝ }
     requires { ⌜ Holds depth (length (now first)) w h ⌝ }
     requires { ⌜ Holds depth (length (now second)) w h ⌝ }
-    requires { ⌜ Fitting e ⌝ }
+    requires { ⌜ Fit e ⌝ }
     ensures first { λ _. ⌜
         now (first .exit)
-        ≡ firstBy (growsOf way) depth w h i e (now (source .entry))
+        ≡ firstBy grows depth w h i e (now (source .entry))
         (now (first .entry)) (now (second .entry)) ⌝ }
     ensures second { λ _. ⌜
         now (second .exit)
-        ≡ secondBy (growsOf way) depth w h i e (now (first .entry)) (now (second .entry)) ⌝ }
+        ≡ secondBy grows depth w h i e (now (first .entry)) (now (second .entry)) ⌝ }
 {
+    let o = e.outline;
     if i == 0 {
-        apply::flat(depth, way, w, h, source, e, first);
+        apply::flat(depth, grows, source, first, w, h, o, &e.rows);
         return;
     }
     if i % 2 == 1 {
-        apply::flat(depth, way, w, h, &first[..], e, second);
+        apply::flat(depth, grows, &first[..], second, w, h, o, &e.rows);
         return;
     }
-    apply::flat(depth, way, w, h, &second[..], e, first);
+    apply::flat(depth, grows, &second[..], first, w, h, o, &e.rows);
 }
 
 // All links in order.
 fn each_link(
     depth: Depth,
-    way: Way,
+    grows: bool,
     w: usize,
     h: usize,
     source: &[u8],
-    all: [Element; MOST_LINKS],
+    all: [Link; MOST_LINKS],
     links: usize,
     first: &mut [u8],
     second: &mut [u8],
@@ -69,24 +67,24 @@ fn each_link(
         (length (now second)) ⌝ }
     ensures first { λ _. ⌜
         now (first .exit)
-        ≡ firstAfter depth w h (madeBy (growsOf way) depth w h (now (source .entry)) all)
+        ≡ firstAfter depth w h (madeBy grows depth w h (now (source .entry)) all)
         links (now (first .entry)) ⌝ }
     ensures second { λ _. ⌜
         now (second .exit)
-        ≡ secondAfter depth w h (madeBy (growsOf way) depth w h (now (source .entry)) all)
+        ≡ secondAfter depth w h (madeBy grows depth w h (now (source .entry)) all)
         links (now (second .entry)) ⌝ }
 {
     let mut i = 0;
     while i < links {
         let e = all[i];
-        link(depth, way, w, h, i, source, e, first, second);
+        link(depth, grows, w, h, i, source, e, first, second);
         i += 1;
     }
 }
 
 fn run(
     depth: Depth,
-    way: Way,
+    grows: bool,
     w: usize,
     h: usize,
     source: &[u8],
@@ -104,13 +102,13 @@ fn run(
         now (first .exit)
         ≡ unlessRefused (told r) (now (first .entry))
         (firstAfter depth w h
-        (resultsBy (growsOf way) depth w h (now (source .entry)) (now (chain .entry))) links
+        (resultsBy grows depth w h (now (source .entry)) (now (chain .entry))) links
         (now (first .entry))) ⌝ }
     ensures second { λ r. ⌜
         now (second .exit)
         ≡ unlessRefused (told r) (now (second .entry))
         (secondAfter depth w h
-        (resultsBy (growsOf way) depth w h (now (source .entry)) (now (chain .entry))) links
+        (resultsBy grows depth w h (now (source .entry)) (now (chain .entry))) links
         (now (second .entry))) ⌝ }
 {
     let read = chain::checked_links(element, links, chain);
@@ -119,7 +117,7 @@ fn run(
     let room = basics::lesser(first.len(), second.len());
     let no = judge::refusal(Padding::Free, depth, w, h, source, check, 0, room);
     if answer::is_done(no) {
-        each_link(depth, way, w, h, source, all, links, first, second);
+        each_link(depth, grows, w, h, source, all, links, first, second);
         return no;
     }
     no
@@ -154,10 +152,10 @@ pub fn erode(
         (secondAfter depth w h (eroded depth w h (now (source .entry)) (now (chain .entry)))
         links (now (second .entry))) ⌝ }
 {
-    let way = Way::Erode;
+    let grows = false;
     run(
         depth,
-        way,
+        grows,
         w,
         h,
         source,
@@ -196,10 +194,10 @@ pub fn dilate(
         (secondAfter depth w h (dilated depth w h (now (source .entry)) (now (chain .entry)))
         links (now (second .entry))) ⌝ }
 {
-    let way = Way::Dilate;
+    let grows = true;
     run(
         depth,
-        way,
+        grows,
         w,
         h,
         source,

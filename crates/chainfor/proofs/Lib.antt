@@ -1,3 +1,4 @@
+pub mod Descriptors
 pub mod Search
 pub mod Sums
 pub mod Finding

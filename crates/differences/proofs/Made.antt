@@ -1,11 +1,12 @@
 -- What is written in the target, one picture less another, is the difference's definition:
 -- of the element that was read, and of the descriptor's own.
 use Prim.Native.Nat.{ℕ, _-_, _<_}
-use mathlib.Core.Path.{_≡_, sym, ap, ap₂, _∙_}
+use mathlib.Core.Path.{_≡_, sym, ap, ap₂, _∙_, subst}
 use mathlib.Core.Bool.{Bool, true, false, not}
 use mathlib.Core.List.{List, _++_}
 use lib.ListN.{drop}
 use lib.Seq.{drop-at}
+use Rattle.answer.specs.declared.Told.{Told}
 use Rattle.basics.specs.Bytes.{Bytes}
 use Rattle.picture.specs.declared.Depth.{Depth}
 use Rattle.picture.specs.Frame.{frame, top, pictureBytes}
@@ -23,6 +24,7 @@ use Rattle.morphology.specs.TopHats.{less}
 use Rattle.rows.specs.Steps.Ways.{sweptBy}
 use Rattle.apply.proofs.Twice.{once-one, twice-one, swept-alike}
 use Rattle.apply.proofs.Read.{flat-read}
+use Rattle.flat.specs.Flat.{flatAnswer, flatLeft}
 use Rattle.differences.specs.declared.Which.{Which}
 use Rattle.differences.specs.declared.Which.the-variants.{White, Black, Gradient}
 use Rattle.differences.specs.Steps.Which.{madeBy, middleBy}
@@ -127,3 +129,17 @@ module _ (d : List ℕ) (m : cellsMade d ≡ true) (b : Bytes d) (depth : Depth)
     middle-written eu =
         eu ∙ ap (λ (e : Element). written depth (middleBy which depth (frame w h) (shapeOf e) A) w h t) q
         ∙ written-same depth _ _ w h t (λ x y lx ly. middle-same which x y)
+
+-- ---- a call goes by its depth as it was found
+pub made-at : (depth found : Depth) → depth ≡ found → (w h : ℕ) (s d : List ℕ) (room : ℕ) (answer : Told)
+    (which : Which) (t u m v : List ℕ)
+    → (answer ≡ flatAnswer found w h s d room)
+    × ((u ≡ flatLeft found (madeBy which found) w h s d room t)
+    × (v ≡ flatLeft found (middleBy which found) w h s d room m))
+    → (answer ≡ flatAnswer depth w h s d room)
+    × ((u ≡ flatLeft depth (madeBy which depth) w h s d room t)
+    × (v ≡ flatLeft depth (middleBy which depth) w h s d room m))
+made-at depth found e w h s d room answer which t u m v p =
+    subst (λ z. (answer ≡ flatAnswer z w h s d room)
+    × ((u ≡ flatLeft z (madeBy which z) w h s d room t)
+    × (v ≡ flatLeft z (middleBy which z) w h s d room m))) (sym e) p

@@ -5,5 +5,5 @@ use Rattle.basics.specs.Settles.{Settles}
 use Rattle.faults.proofs.check.Kinds as check-kinds
 use Rattle.faults.proofs.check.Reads as check
 
-pub check-settled : Settles 0 check-kinds.ps check-kinds.r check.Learnt
+pub check-settled : Settles 1 check-kinds.ps check-kinds.r check.Learnt
 check-settled κs a x y s t p q = same-answer x y _ p q

@@ -2,7 +2,6 @@
 // the first offset, in row order, at which an element and the chain of its links part.
 use answer::Answer;
 use answer::CENTRE;
-use element::Element;
 use element::MOST_CELLS;
 use element::Outline;
 use element::RowWord;
@@ -17,7 +16,7 @@ ghost use Prim.Native.Nat.{_≤_, _<_};
 ghost use lib.ListN.{take};
 ghost use Rattle.answer.specs.Answer.{told};
 ghost use Rattle.element.specs.Descriptor.{mostCells};
-ghost use Rattle.element.specs.Record.{shapeOf, shapeBy};
+ghost use Rattle.element.specs.Record.{shapeBy};
 ghost use Rattle.morphology.specs.Chain.{mostLinks, Chained};
 ghost use Rattle.morphology.specs.Check.{hasTest, pathTest, checkOf};
 ghost use Rattle.reach.specs.Steps.Links.{shapesOf, placeOf, OneByte, Linked};
@@ -101,19 +100,23 @@ fn offset_no(n: usize) -> Offset
 }
 
 // The check of an element and the first k of its links.
-pub fn check(e: Element, links: [Link; MOST_LINKS], k: usize) -> Answer
-    requires { ⌜ Chained (shapeOf e) (shapesOf (take k links)) ⌝ }
+pub fn check(
+    outline: Outline,
+    cells: &[RowWord; MOST_CELLS],
+    links: [Link; MOST_LINKS],
+    k: usize,
+) -> Answer
+    requires { ⌜ Chained (shapeBy outline (now cells)) (shapesOf (take k links)) ⌝ }
     requires { ⌜ k ≤ mostLinks ⌝ }
-    ensures { λ r. ⌜ told r ≡ told (answerOf (checkOf (shapeOf e) (shapesOf (take k links)))) ⌝ }
+    ensures { λ r. ⌜ told r ≡ told
+        (answerOf (checkOf (shapeBy outline (now (cells .entry))) (shapesOf (take k links)))) ⌝ }
 {
-    let cells = e.rows;
-    let outline = e.outline;
     let sums = paths::all_sums(links, k);
     let words = sums.words;
     let mut n = 0;
     while n < ALL {
         let at = offset_no(n);
-        if at_fault(&cells, outline, &words, sums.origin, links, k, at) {
+        if at_fault(cells, outline, &words, sums.origin, links, k, at) {
             return Answer::Split(at.x as u8, at.y as u8);
         }
         n += 1;

@@ -1,22 +1,22 @@
 // Flat erosion, dilation, opening and closing as a user calls them:
 // the answer and every lent byte are settled for all inputs.
+// Each depth has functions of its own below, and so a stack of its own.
 use answer::Answer;
-use judge::Padding;
 use picture::Depth;
 use rows::Way;
 ghost use mathlib.Core.Path.{_≡_};
 ghost use Prim.Native.Nat.{min};
 ghost use lib.ListN.{length};
 ghost use Rattle.answer.specs.Answer.{told};
+ghost use Rattle.picture.specs.declared.Depth.the-variants.{OneBit, EightBit};
 ghost use Rattle.picture.specs.Frame.{top};
 ghost use Rattle.morphology.specs.Operations as defined;
 ghost use Rattle.rows.specs.Steps.Ways.{growsOf};
 ghost use Rattle.flat.specs.Flat.{flatAnswer, flatLeft};
 ghost use Rattle.flat.specs.Steps.Ways.{onceBy, twiceBy};
 
-// One operation, from the source into the target.
-fn run(
-    depth: Depth,
+// One operation at one bit, from the source into the target. The element is read where nothing is refused.
+fn run_bits(
     way: Way,
     w: usize,
     h: usize,
@@ -26,29 +26,58 @@ fn run(
 ) -> Answer
     ensures answer { λ r. ⌜
         told r
-        ≡ flatAnswer depth w h (now (source .entry)) (now (element .entry))
+        ≡ flatAnswer OneBit w h (now (source .entry)) (now (element .entry))
         (length (now (target .entry))) ⌝ }
     ensures bytes { λ _. ⌜
         now (target .exit)
-        ≡ flatLeft depth (onceBy (growsOf way) depth) w h (now (source .entry)) (now (element .entry))
+        ≡ flatLeft OneBit (onceBy (growsOf way) OneBit) w h (now (source .entry)) (now (element .entry))
         (length (now (target .entry))) (now (target .entry)) ⌝ }
 {
-    let read = reader::read_element(element);
-    let shape = read.answer;
-    let e = read.element;
-    let room = target.len();
-    let no = judge::refusal(Padding::Free, depth, w, h, source, shape, 0, room);
+    let made = descriptor::well_made(element);
+    let no = judge::element_refusal(Depth::OneBit, w, h, source, made, target.len());
     if answer::is_done(no) {
-        apply::flat(depth, way, w, h, source, e, target);
+        let e = reader::element_at(element);
+        let grows = rows::is_growing(way);
+        let o = e.outline;
+        apply::flat_bits(grows, source, target, w, h, o, &e.rows);
         return no;
     }
     no
 }
 
-// Two operations by one element:
+// The same at 8 bits.
+fn run_bytes(
+    way: Way,
+    w: usize,
+    h: usize,
+    source: &[u8],
+    element: &[u8],
+    target: &mut [u8],
+) -> Answer
+    ensures answer { λ r. ⌜
+        told r
+        ≡ flatAnswer EightBit w h (now (source .entry)) (now (element .entry))
+        (length (now (target .entry))) ⌝ }
+    ensures bytes { λ _. ⌜
+        now (target .exit)
+        ≡ flatLeft EightBit (onceBy (growsOf way) EightBit) w h (now (source .entry)) (now (element .entry))
+        (length (now (target .entry))) (now (target .entry)) ⌝ }
+{
+    let made = descriptor::well_made(element);
+    let no = judge::element_refusal(Depth::EightBit, w, h, source, made, target.len());
+    if answer::is_done(no) {
+        let e = reader::element_at(element);
+        let grows = rows::is_growing(way);
+        let o = e.outline;
+        apply::flat_bytes(grows, source, target, w, h, o, &e.rows);
+        return no;
+    }
+    no
+}
+
+// Two operations by one element, at one bit:
 // the first from the source into the scratch, the other from there into the target.
-fn run_twice(
-    depth: Depth,
+fn twice_bits(
     first: Way,
     w: usize,
     h: usize,
@@ -59,24 +88,62 @@ fn run_twice(
 ) -> Answer
     ensures answer { λ r. ⌜
         told r
-        ≡ flatAnswer depth w h (now (source .entry)) (now (element .entry))
+        ≡ flatAnswer OneBit w h (now (source .entry)) (now (element .entry))
         (min (length (now (target .entry))) (length (now (scratch .entry)))) ⌝ }
     ensures bytes { λ _. ⌜
         now (target .exit)
-        ≡ flatLeft depth (twiceBy (growsOf first) depth) w h (now (source .entry)) (now (element .entry))
+        ≡ flatLeft OneBit (twiceBy (growsOf first) OneBit) w h (now (source .entry)) (now (element .entry))
         (min (length (now (target .entry))) (length (now (scratch .entry)))) (now (target .entry)) ⌝ }
     ensures middle { λ _. ⌜
         now (scratch .exit)
-        ≡ flatLeft depth (onceBy (growsOf first) depth) w h (now (source .entry)) (now (element .entry))
+        ≡ flatLeft OneBit (onceBy (growsOf first) OneBit) w h (now (source .entry)) (now (element .entry))
         (min (length (now (target .entry))) (length (now (scratch .entry)))) (now (scratch .entry)) ⌝ }
 {
-    let read = reader::read_element(element);
-    let shape = read.answer;
-    let e = read.element;
     let room = basics::lesser(target.len(), scratch.len());
-    let no = judge::refusal(Padding::Free, depth, w, h, source, shape, 0, room);
+    let made = descriptor::well_made(element);
+    let no = judge::element_refusal(Depth::OneBit, w, h, source, made, room);
     if answer::is_done(no) {
-        apply::flat_twice(depth, first, w, h, source, e, target, scratch);
+        let e = reader::element_at(element);
+        let grows = rows::is_growing(first);
+        let o = e.outline;
+        apply::bits_twice(grows, source, target, scratch, w, h, o, &e.rows);
+        return no;
+    }
+    no
+}
+
+// The same at 8 bits.
+fn twice_bytes(
+    first: Way,
+    w: usize,
+    h: usize,
+    source: &[u8],
+    element: &[u8],
+    target: &mut [u8],
+    scratch: &mut [u8],
+) -> Answer
+    ensures answer { λ r. ⌜
+        told r
+        ≡ flatAnswer EightBit w h (now (source .entry)) (now (element .entry))
+        (min (length (now (target .entry))) (length (now (scratch .entry)))) ⌝ }
+    ensures bytes { λ _. ⌜
+        now (target .exit)
+        ≡ flatLeft EightBit (twiceBy (growsOf first) EightBit) w h (now (source .entry)) (now
+        (element .entry))
+        (min (length (now (target .entry))) (length (now (scratch .entry)))) (now (target .entry)) ⌝ }
+    ensures middle { λ _. ⌜
+        now (scratch .exit)
+        ≡ flatLeft EightBit (onceBy (growsOf first) EightBit) w h (now (source .entry)) (now (element .entry))
+        (min (length (now (target .entry))) (length (now (scratch .entry)))) (now (scratch .entry)) ⌝ }
+{
+    let room = basics::lesser(target.len(), scratch.len());
+    let made = descriptor::well_made(element);
+    let no = judge::element_refusal(Depth::EightBit, w, h, source, made, room);
+    if answer::is_done(no) {
+        let e = reader::element_at(element);
+        let grows = rows::is_growing(first);
+        let o = e.outline;
+        apply::bytes_twice(grows, source, target, scratch, w, h, o, &e.rows);
         return no;
     }
     no
@@ -100,7 +167,10 @@ pub fn erode(
         ≡ flatLeft depth (defined.erode (top depth)) w h (now (source .entry)) (now (element .entry))
         (length (now (target .entry))) (now (target .entry)) ⌝ }
 {
-    run(depth, Way::Erode, w, h, source, element, target)
+    match depth {
+        Depth::OneBit => run_bits(Way::Erode, w, h, source, element, target),
+        Depth::EightBit => run_bytes(Way::Erode, w, h, source, element, target),
+    }
 }
 
 // Dilation.
@@ -121,7 +191,10 @@ pub fn dilate(
         ≡ flatLeft depth defined.dilate w h (now (source .entry)) (now (element .entry))
         (length (now (target .entry))) (now (target .entry)) ⌝ }
 {
-    run(depth, Way::Dilate, w, h, source, element, target)
+    match depth {
+        Depth::OneBit => run_bits(Way::Dilate, w, h, source, element, target),
+        Depth::EightBit => run_bytes(Way::Dilate, w, h, source, element, target),
+    }
 }
 
 // Opening: the scratch holds the eroded picture afterwards.
@@ -147,7 +220,10 @@ pub fn open(
         ≡ flatLeft depth (defined.erode (top depth)) w h (now (source .entry)) (now (element .entry))
         (min (length (now (target .entry))) (length (now (scratch .entry)))) (now (scratch .entry)) ⌝ }
 {
-    run_twice(depth, Way::Erode, w, h, source, element, target, scratch)
+    match depth {
+        Depth::OneBit => twice_bits(Way::Erode, w, h, source, element, target, scratch),
+        Depth::EightBit => twice_bytes(Way::Erode, w, h, source, element, target, scratch),
+    }
 }
 
 // Closing: the scratch holds the dilated picture afterwards.
@@ -173,5 +249,8 @@ pub fn close(
         ≡ flatLeft depth defined.dilate w h (now (source .entry)) (now (element .entry))
         (min (length (now (target .entry))) (length (now (scratch .entry)))) (now (scratch .entry)) ⌝ }
 {
-    run_twice(depth, Way::Dilate, w, h, source, element, target, scratch)
+    match depth {
+        Depth::OneBit => twice_bits(Way::Dilate, w, h, source, element, target, scratch),
+        Depth::EightBit => twice_bytes(Way::Dilate, w, h, source, element, target, scratch),
+    }
 }

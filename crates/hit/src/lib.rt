@@ -2,26 +2,22 @@
 // the answer and every lent byte are settled for all inputs.
 use answer::Answer;
 use bitrow::Task;
-use element::Element;
 use element::Outline;
 use element::RowWord;
 use judge::Padding;
 use picture::Bin;
 use picture::Depth;
 ghost use mathlib.Core.Path.{_≡_};
-ghost use mathlib.Core.Bool.{cond};
-ghost use mathlib.Core.List.{[], _∷_};
+ghost use mathlib.Core.Bool.{true};
 ghost use Prim.Native.Nat.{_<_};
 ghost use lib.ListN.{length};
 ghost use lib.Bits.{bitAnd};
 ghost use Rattle.answer.specs.Answer.{told, plain};
 ghost use Rattle.answer.specs.Refuse.{refuse};
-ghost use Rattle.answer.specs.Lent.{ifDone};
 ghost use Rattle.basics.specs.Zip.{zipIn};
 ghost use Rattle.picture.specs.Frame.{rowBytes, Holds};
 ghost use Rattle.picture.specs.Bytes.{written};
-ghost use Rattle.element.specs.Descriptor.{wellMade, shapeIn};
-ghost use Rattle.element.specs.Record.{elementOf, nothing};
+ghost use Rattle.element.specs.Descriptor.{cellsMade, wellMade, shapeIn};
 ghost use Rattle.morphology.specs.Overlap.{shared};
 ghost use Rattle.rows.specs.Steps.Ready.{Ready};
 ghost use Rattle.hit.specs.Hit.{pairTests, hitAnswer, hitLeft};
@@ -66,10 +62,10 @@ fn hit_row(
         over: true,
         grows: false,
     };
-    bitrow::make_row(as_is, t, s, w, h, y, hit, hits);
+    narrow::any_row(as_is, t, s, w, h, y, hit, hits);
     let n = t.len();
     let mut row = [0u8; picture::MOST_PINGS / 8];
-    bitrow::make_row(over, &mut row[..n], s, w, h, y, miss, misses);
+    narrow::any_row(over, &mut row[..n], s, w, h, y, miss, misses);
     meet(t, &row[..n]);
 }
 
@@ -113,57 +109,38 @@ fn hit_rows(
     }
 }
 
-// What two descriptors answer: hit before miss, then the overlap.
-fn pair_answer(hit: Answer, miss: Answer, overlap: bool) -> Answer
-    ensures { λ r. ⌜ told r
-        ≡ ifDone (told hit) (ifDone (told miss) (refuse ((overlap, 5) ∷ []) (plain 0))) ⌝ }
+// Two well made descriptors share an offset. Their elements are held here alone.
+fn is_shared(hit: &[u8], miss: &[u8]) -> bool
+    requires { ⌜ cellsMade (now hit) ≡ true ⌝ }
+    requires { ⌜ cellsMade (now miss) ≡ true ⌝ }
+    ensures { λ r. ⌜ r ≡ shared (shapeIn (now (hit .entry))) (shapeIn (now (miss .entry))) ⌝ }
 {
-    if answer::is_done(hit) {
-        if answer::is_done(miss) {
-            if overlap {
-                Answer::Overlap
-            } else {
-                Answer::Done
-            }
-        } else {
-            miss
-        }
-    } else {
-        hit
-    }
+    let a = reader::element_at(hit);
+    let b = reader::element_at(miss);
+    let first = a.outline;
+    let second = b.outline;
+    overlap::offset_shared(first, &a.rows, second, &b.rows)
 }
 
-// Both elements, and what their descriptors answer together.
-struct Pair {
-    answer: Answer,
-    hit: Element,
-    miss: Element,
-}
-
-fn read_pair(hit: &[u8], miss: &[u8]) -> Pair
-    ensures { λ r. ⌜
-        (told (r .answer)
+// What two descriptors answer: hit before miss, then the overlap.
+fn pair_answer(hit: &[u8], miss: &[u8]) -> Answer
+    ensures { λ r. ⌜ told r
         ≡ refuse
         (pairTests (wellMade (now (hit .entry))) (wellMade (now (miss .entry)))
-        (shared (shapeIn (now (hit .entry))) (shapeIn (now (miss .entry))))) (plain 0))
-        × ((r .hit ≡ cond (wellMade (now (hit .entry))) (elementOf (now (hit .entry))) nothing)
-        × (r .miss ≡ cond (wellMade (now (miss .entry))) (elementOf (now (miss .entry))) nothing)) ⌝ }
+        (shared (shapeIn (now (hit .entry))) (shapeIn (now (miss .entry))))) (plain 0) ⌝ }
 {
-    let first = reader::read_element(hit);
-    let second = reader::read_element(miss);
-    let a = first.element;
-    let b = second.element;
-    let hits = a.rows;
-    let misses = b.rows;
-    let overlap = overlap::offset_shared(a.outline, &hits, b.outline, &misses);
-    let one = first.answer;
-    let two = second.answer;
-    let answer = pair_answer(one, two, overlap);
-    Pair {
-        answer,
-        hit: a,
-        miss: b,
+    let one = descriptor::well_made(hit);
+    if !one {
+        return Answer::Shape;
     }
+    let two = descriptor::well_made(miss);
+    if !two {
+        return Answer::Shape;
+    }
+    if is_shared(hit, miss) {
+        return Answer::Overlap;
+    }
+    Answer::Done
 }
 
 // Hit-or-miss of the one-bit w x h picture in the source by the elements of two descriptors, into the target.
@@ -185,16 +162,15 @@ pub fn hit_or_miss(
         (now (miss .entry)) (length (now (target .entry)))
         (now (target .entry)) ⌝ }
 {
-    let pair = read_pair(hit, miss);
-    let shape = pair.answer;
-    let a = pair.hit;
-    let b = pair.miss;
+    let shape = pair_answer(hit, miss);
     let room = target.len();
     let no = judge::refusal(Padding::Free, Depth::OneBit, w, h, source, shape, 0, room);
     if answer::is_done(no) {
-        let hits = a.rows;
-        let misses = b.rows;
-        hit_rows(source, target, w, h, a.outline, &hits, b.outline, &misses);
+        let a = reader::element_at(hit);
+        let b = reader::element_at(miss);
+        let first = a.outline;
+        let second = b.outline;
+        hit_rows(source, target, w, h, first, &a.rows, second, &b.rows);
         return no;
     }
     no

@@ -168,3 +168,10 @@ module _ (padding : Padding) (depth : Depth) (w h : ℕ) (s : List ℕ) (made : 
   element-admitted shape answer es ea e =
       let p = admitted padding depth w h s shape 0 room (ap isDone (sym ea) ∙ e) in
       (p .0, not-false made (staged (not made) 4 (plain 0) (omega arith) (ap isDone (sym es) ∙ p .1) .0))
+
+  -- the same of the answer of the whole list
+  pub told-admitted : (answer : Told) → answer ≡ refuse (elementTests padding depth w h s made room) (plain 0)
+      → isDone answer ≡ true → Admitted padding depth w h s 0 room × (made ≡ true)
+  told-admitted answer ea e =
+      element-admitted (refuse (shapeTests made) (plain 0)) answer refl
+      (ea ∙ sym (between-tests padding depth w h s (shapeTests made) 0 room (omega arith, tt))) e

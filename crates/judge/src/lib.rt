@@ -8,7 +8,8 @@ ghost use Rattle.answer.specs.Answer.{told, plain};
 ghost use Rattle.answer.specs.Refuse.{refuse};
 ghost use Rattle.answer.specs.Lent.{ifDone};
 ghost use Rattle.picture.specs.Frame.{Holds};
-ghost use Rattle.judge.specs.Tests.{passes, pictureTests, roomTests};
+ghost use Rattle.judge.specs.declared.Padding.the-variants.{Free};
+ghost use Rattle.judge.specs.Tests.{passes, pictureTests, roomTests, shapeTests, elementTests};
 
 // The padding of a one-bit source is judged, or is free.
 pub enum Padding {
@@ -64,4 +65,27 @@ pub fn refusal(
         return Answer::Room;
     }
     Answer::Done
+}
+
+// What is found of a descriptor, well made or not: done, or SHAPE.
+pub fn shape_answer(made: bool) -> Answer
+    ensures { λ r. ⌜ told r ≡ refuse (shapeTests made) (plain 0) ⌝ }
+{
+    if made { Answer::Done } else { Answer::Shape }
+}
+
+// The first refusal of an operation by one element, whose descriptor was found well made or not:
+// SIZE, SOURCE, SHAPE, ROOM. What stands in the source's padding is free.
+pub fn element_refusal(
+    depth: Depth,
+    w: usize,
+    h: usize,
+    s: &[u8],
+    made: bool,
+    room: usize,
+) -> Answer
+    ensures { λ r. ⌜ told r ≡ refuse (elementTests Free depth w h (now (s .entry)) made room) (plain 0) ⌝ }
+{
+    let shape = shape_answer(made);
+    refusal(Padding::Free, depth, w, h, s, shape, 0, room)
 }

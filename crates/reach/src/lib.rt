@@ -1,14 +1,13 @@
 // Links as the check of a chain holds them, and boards of the sums that they reach.
 use answer::CENTRE;
-use element::Element;
 use element::MOST_CELLS;
 use element::Outline;
 use element::RowWord;
+use picture::Bin;
+use picture::Ping;
+use picture::Point;
 ghost use mathlib.Core.Path.{_≡_};
-ghost use mathlib.Core.List.{map};
-ghost use lib.ListN.{take};
-ghost use Rattle.morphology.specs.Chain.{mostLinkCells};
-ghost use Rattle.reach.specs.Steps.Links.{linkOf, OneByte};
+ghost use Rattle.reach.specs.Steps.Links.{firstRows, linkBy, noLink, OneByte};
 ghost use Rattle.reach.specs.Steps.Boards.{holdsOf, Small};
 
 // The limits: cells across and down of a link, and links of a chain.
@@ -63,8 +62,8 @@ pub struct Board {
 }
 
 // The first rows of an element, as many as a link has.
-fn first_rows(cells: [RowWord; MOST_CELLS]) -> [RowWord; MOST_LINK_CELLS]
-    ensures { λ r. ⌜ r ≡ take mostLinkCells cells ⌝ }
+fn first_rows(cells: &[RowWord; MOST_CELLS]) -> [RowWord; MOST_LINK_CELLS]
+    ensures { λ r. ⌜ r ≡ firstRows (now (cells .entry)) ⌝ }
 {
     let mut rows = [0; MOST_LINK_CELLS];
     let mut r = 0;
@@ -75,29 +74,28 @@ fn first_rows(cells: [RowWord; MOST_CELLS]) -> [RowWord; MOST_LINK_CELLS]
     rows
 }
 
-fn link_of(e: Element) -> Link
-    ensures { λ r. ⌜ r ≡ linkOf e ⌝ }
+// The link of an element that was read.
+pub fn link_of(outline: Outline, cells: &[RowWord; MOST_CELLS]) -> Link
+    ensures { λ r. ⌜ r ≡ linkBy outline (now (cells .entry)) ⌝ }
 {
-    let outline = e.outline;
-    let cells = e.rows;
     let rows = first_rows(cells);
     Link { outline, rows }
 }
 
-// Elements that were read, as links: once for each check.
-pub fn links_of(all: [Element; MOST_LINKS]) -> [Link; MOST_LINKS]
-    ensures { λ r. ⌜ r ≡ map linkOf all ⌝ }
+// What stands where no link is read.
+pub fn no_link() -> Link
+    ensures { λ r. ⌜ r ≡ noLink ⌝ }
 {
-    let first = all[0];
-    let none = link_of(first);
-    let mut links = [none; MOST_LINKS];
-    let mut i = 0;
-    while i < MOST_LINKS {
-        let e = all[i];
-        links[i] = link_of(e);
-        i += 1;
-    }
-    links
+    let rows = [0; MOST_LINK_CELLS];
+    let outline = Outline {
+        w: 0,
+        h: 0,
+        origin: Point {
+            ping: Ping(0),
+            bin: Bin(0),
+        },
+    };
+    Link { outline, rows }
 }
 
 // The board has the sums that stand for the offset.

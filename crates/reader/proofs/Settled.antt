@@ -3,21 +3,16 @@
 use Rattle.answer.proofs.OneToOne.{same-answer}
 use Rattle.basics.specs.Settles.{Settles}
 use Rattle.basics.proofs.Settled.{settled}
+use Rattle.reader.proofs.element_at.Kinds as element-at-kinds
+use Rattle.reader.proofs.element_at.Reads as element-at
 use Rattle.reader.proofs.read_element.Kinds as read-element-kinds
 use Rattle.reader.proofs.read_element.Reads as read-element
-use Rattle.reader.proofs.read_weighted.Kinds as read-weighted-kinds
-use Rattle.reader.proofs.read_weighted.Reads as read-weighted
+
+pub element-at-settled : Settles 1 element-at-kinds.ps element-at-kinds.r element-at.Learnt
+element-at-settled κs a x y s t p q = settled p q
 
 pub read-element-settled : Settles 1 read-element-kinds.ps read-element-kinds.r read-element.Learnt
 read-element-settled κs a x y s t p q =
-    λ i.
-    record {
-      answer = same-answer (x .answer) (y .answer) _ (p .0) (q .0) i;
-      element = settled (p .1) (q .1) i;
-    }
-
-pub read-weighted-settled : Settles 1 read-weighted-kinds.ps read-weighted-kinds.r read-weighted.Learnt
-read-weighted-settled κs a x y s t p q =
     λ i.
     record {
       answer = same-answer (x .answer) (y .answer) _ (p .0) (q .0) i;

@@ -16,7 +16,7 @@ ghost use Prim.Native.Nat.{_+_, _*_, _≤_};
 ghost use lib.ListN.{length};
 ghost use Rattle.answer.specs.Answer.{told, plain};
 ghost use Rattle.answer.specs.Refuse.{refuse};
-ghost use Rattle.element.specs.Descriptor.{mostCells, cellsMade, wellMade, wellWeighted};
+ghost use Rattle.element.specs.Descriptor.{mostCells, cellsMade, wellMade};
 ghost use Rattle.element.specs.Record.{elementOf, nothing};
 ghost use Rattle.element.specs.Steps.Words.{wordByte, wordOf, rowWords};
 
@@ -70,7 +70,7 @@ fn words_of(d: &[u8], n: usize, h: usize) -> [RowWord; MOST_CELLS]
 }
 
 // The element of bytes whose cells are well made.
-fn element_at(d: &[u8]) -> Element
+pub fn element_at(d: &[u8]) -> Element
     requires { ⌜ cellsMade (now d) ≡ true ⌝ }
     ensures { λ r. ⌜ r ≡ elementOf (now (d .entry)) ⌝ }
 {
@@ -123,14 +123,5 @@ pub fn read_element(d: &[u8]) -> Read
         × (r .element ≡ cond (wellMade (now (d .entry))) (elementOf (now (d .entry))) nothing) ⌝ }
 {
     let made = descriptor::well_made(d);
-    read_if(made, d)
-}
-
-// The element of a weighted descriptor, or SHAPE. Its heights stay where they stand, from `cells_end` on.
-pub fn read_weighted(d: &[u8]) -> Read
-    ensures { λ r. ⌜ (told (r .answer) ≡ refuse ((not (wellWeighted (now (d .entry))), 4) ∷ []) (plain 0))
-        × (r .element ≡ cond (wellWeighted (now (d .entry))) (elementOf (now (d .entry))) nothing) ⌝ }
-{
-    let made = descriptor::well_weighted(d);
     read_if(made, d)
 }

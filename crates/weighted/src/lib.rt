@@ -2,7 +2,6 @@
 // the answer and every lent byte are settled for all inputs.
 // The element's heights are read where they stand, in its descriptor.
 use answer::Answer;
-use judge::Padding;
 use picture::Depth;
 use rows::Way;
 ghost use mathlib.Core.Path.{_≡_};
@@ -25,16 +24,15 @@ fn run(way: Way, w: usize, h: usize, source: &[u8], element: &[u8], target: &mut
         ≡ weightedLeft (onceBy (growsOf way)) w h (now (source .entry)) (now (element .entry))
         (length (now (target .entry))) (now (target .entry)) ⌝ }
 {
-    let read = reader::read_weighted(element);
-    let shape = read.answer;
-    let e = read.element;
-    let room = target.len();
-    let eight = Depth::EightBit;
-    let no = judge::refusal(Padding::Free, eight, w, h, source, shape, 0, room);
+    let made = descriptor::well_weighted(element);
+    let no = judge::element_refusal(Depth::EightBit, w, h, source, made, target.len());
     if answer::is_done(no) {
+        let e = reader::element_at(element);
+        let grows = rows::is_growing(way);
         let o = e.outline;
         let at = element::cells_end(o.w, o.h);
-        apply::weighted(way, w, h, source, e, &element[at..], target);
+        let heights = &element[at..];
+        apply::weighted(grows, source, target, w, h, o, &e.rows, heights);
         return no;
     }
     no
@@ -64,16 +62,16 @@ fn run_twice(
         ≡ weightedLeft (onceBy (growsOf first)) w h (now (source .entry)) (now (element .entry))
         (min (length (now (target .entry))) (length (now (scratch .entry)))) (now (scratch .entry)) ⌝ }
 {
-    let read = reader::read_weighted(element);
-    let shape = read.answer;
-    let e = read.element;
     let room = basics::lesser(target.len(), scratch.len());
-    let eight = Depth::EightBit;
-    let no = judge::refusal(Padding::Free, eight, w, h, source, shape, 0, room);
+    let made = descriptor::well_weighted(element);
+    let no = judge::element_refusal(Depth::EightBit, w, h, source, made, room);
     if answer::is_done(no) {
+        let e = reader::element_at(element);
+        let grows = rows::is_growing(first);
         let o = e.outline;
         let at = element::cells_end(o.w, o.h);
-        apply::weighted_twice(first, w, h, source, e, &element[at..], target, scratch);
+        let heights = &element[at..];
+        apply::weighted_twice(grows, source, target, scratch, w, h, o, &e.rows, heights);
         return no;
     }
     no

@@ -1,9 +1,9 @@
 // The work that a job asks for: an element and a file judged,
 // then an operation on the file's picture, and the text of the result. A refusal prints its line.
 use answer::Answer;
-use element::Element;
+use element::Outline;
+use element::RowWord;
 use picture::Depth;
-use rows::Way;
 ghost use mathlib.Core.Path.{_≡_};
 ghost use mathlib.Core.List.{_++_};
 ghost use lib.ListN.{length};
@@ -13,7 +13,7 @@ ghost use Rattle.answer.specs.Lent.{ifDone};
 ghost use Rattle.picture.specs.Frame.{Holds};
 ghost use Rattle.picture.specs.Points.{valueAt};
 ghost use Rattle.picture.specs.Bytes.{written};
-ghost use Rattle.element.specs.Record.{shapeOf};
+ghost use Rattle.element.specs.Record.{shapeBy};
 ghost use Rattle.apply.specs.Steps.Applied.{Fitting};
 ghost use Rattle.ech.specs.ReadWrite.{fileTests};
 ghost use Rattle.work.specs.Work.{textTests, shortest, workAnswer, operated, middleIn};
@@ -67,44 +67,48 @@ fn operate(
     w: usize,
     h: usize,
     source: &[u8],
-    e: Element,
+    o: Outline,
+    words: &[RowWord],
     result: &mut [u8],
     scratch: &mut [u8],
 )
     requires { ⌜ Holds depth (length (now source)) w h ⌝ }
     requires { ⌜ Holds depth (length (now result)) w h ⌝ }
     requires { ⌜ Holds depth (length (now scratch)) w h ⌝ }
-    requires { ⌜ Fitting e ⌝ }
+    requires { ⌜ Fitting o (length (now words)) ⌝ }
     ensures { λ _. ⌜
         now (result .exit)
-        ≡ written depth (operated op depth w h (shapeOf e) (valueAt depth (now (source .entry)) w)) w h
-        (now (result .entry)) ⌝ }
+        ≡ written depth
+        (operated op depth w h (shapeBy o (now (words .entry))) (valueAt depth (now (source .entry)) w))
+        w h (now (result .entry)) ⌝ }
     ensures { λ _. ⌜
         now (scratch .exit)
-        ≡ middleIn op depth w h (shapeOf e) (valueAt depth (now (source .entry)) w) (now (scratch .entry)) ⌝ }
+        ≡ middleIn op depth w h (shapeBy o (now (words .entry))) (valueAt depth (now (source .entry)) w)
+        (now (scratch .entry)) ⌝ }
 {
     match op {
-        Operation::Erode => apply::flat(depth, Way::Erode, w, h, source, e, result),
-        Operation::Dilate => apply::flat(depth, Way::Dilate, w, h, source, e, result),
-        Operation::Open => apply::flat_twice(depth, Way::Erode, w, h, source, e, result, scratch),
-        Operation::Close => apply::flat_twice(depth, Way::Dilate, w, h, source, e, result, scratch),
+        Operation::Erode => apply::flat(depth, false, source, result, w, h, o, words),
+        Operation::Dilate => apply::flat(depth, true, source, result, w, h, o, words),
+        Operation::Open => apply::flat_twice(depth, false, source, result, scratch, w, h, o, words),
+        Operation::Close => apply::flat_twice(depth, true, source, result, scratch, w, h, o, words),
     }
 }
 
 // What nothing refuses: the file's picture, the result and the text, one after another.
 fn work_out(
     op: Operation,
-    e: Element,
+    o: Outline,
+    words: &[RowWord],
     file: &[u8],
     source: &mut [u8],
     result: &mut [u8],
     scratch: &mut [u8],
     text: &mut [u8],
 ) -> usize
-    requires { ⌜ Fitting e ⌝ }
+    requires { ⌜ Fitting o (length (now words)) ⌝ }
     requires { ⌜ Taken (now file) (shortest (now source) (now result) (now scratch)) (length (now text)) ⌝ }
     ensures { λ r. ⌜
-        Worked op (shapeOf e) (now (file .entry)) (now (source .entry))
+        Worked op (shapeBy o (now (words .entry))) (now (file .entry)) (now (source .entry))
         (now (result .entry)) (now (scratch .entry))
         (now (text .entry)) r (now (source .exit)) (now (result .exit))
         (now (scratch .exit)) (now (text .exit)) ⌝ }
@@ -115,7 +119,7 @@ fn work_out(
     let h = head.h;
     let depth = ech::depth_of(kind);
     let n = picture::picture_bytes(depth, w, h);
-    operate(op, depth, w, h, &source[..n], e, result, scratch);
+    operate(op, depth, w, h, &source[..n], o, words, result, scratch);
     drawing::put_text(depth, text, &result[..], w, h, kind)
 }
 
@@ -171,12 +175,13 @@ pub fn carry_out(
         (now (text .exit)) ⌝ }
 {
     let room = basics::lesser(source.len(), basics::lesser(result.len(), scratch.len()));
-    let read = reader::read_element(descriptor);
-    let shape = read.answer;
-    let e = read.element;
+    let made = descriptor::well_made(descriptor);
+    let shape = judge::shape_answer(made);
     let no = refusal(shape, file, room, text.len());
     if answer::is_done(no) {
-        let n = work_out(op, e, file, source, result, scratch, text);
+        let e = reader::element_at(descriptor);
+        let o = e.outline;
+        let n = work_out(op, o, &e.rows, file, source, result, scratch, text);
         return Outcome {
             answer: no,
             printed: n,

@@ -1,31 +1,17 @@
 -- The first operation leaves its picture in the scratch, from which the other is made.
 -- A picture that was written reads back at each point,
 -- so that the other is made of the first's own result: `weighted-after`.
-use Rattle.apply.proofs.Twice.{weighted-after, still-holds}
-use Rattle.picture.specs.declared.Depth.the-variants.{EightBit}
-use Rattle.rows.specs.Steps.Ways.{growsOf}
+use Rattle.apply.proofs.Twice.{weighted-after}
 use borrow.Author.Needs.{needs}
 use Rattle.apply.proofs.weighted_twice.Statement.{statement}
 use Rattle.apply.proofs.weighted_twice.Tie as tie
 
-second-requires : tie.Need-weighted-requires-2
-second-requires c κs =
-    let s = c .before .before .before .before .before .before .before .before .before .before .before in
-    let a = s .args in (
-      still-holds EightBit (a .w) (a .h) _ _
-          (c .before .before .before .before .before .weighted .kept .1 .1 .1 .1 .1 .1 .0) (s .pre .1 .1 .0),
-      (s .pre .1 .0, s .pre .1 .1 .1),
-    )
-
 returns : tie.Need-returns
-returns c =
-    let a = c .before .before .before .before .before .before .before
-    .before .before .before .before .before .before .before .args in
-    let m = c .before .before .before .before .before .before .before .before .weighted .ensures in (
-      weighted-after (a .w) (a .h) (a .e) (a .heights .now)
-          (a .source .now) _ (a .scratch .now) (a .target .now) _ (growsOf (a .first)) _
-          (c .before .before .before .before .before .other .ensures)
-          m (c .before .before .weighted2 .ensures),
+returns c = let a = c .before .before .before .before .before .before .before .before .before
+    .before .before .before .before .before .args in
+    let m = c .before .before .before .before .before .before .before .weighted .ensures in (
+      weighted-after (a .w) (a .h) (a .o) (a .words .now) (a .s .now) _ (a .scratch .now) (a .t .now) _
+          (a .grows) (a .heights .now) m (c .before .before .weighted2 .ensures),
       m,
     )
 
@@ -33,4 +19,4 @@ pub weighted-twice-spec : {M : Type 1} → statement M
 weighted-twice-spec =
     tie.close
     (tie.spec (λ c κs. search needs)
-    (λ c κs. search needs) second-requires (λ c. search needs) (λ c. search needs) returns)
+    (λ c κs. search needs) (λ c. search needs) (λ c. search needs) returns)

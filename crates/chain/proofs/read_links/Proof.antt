@@ -1,15 +1,16 @@
 -- Invariant: link i begins at `at`, the refusals from there on are those of the chain,
--- and the elements so far are the first i of the chain's. What falls: the links that are left.
+-- and the links so far are the first i of the chain's. What falls: the links that are left.
 use Prim.Native.Nat.{_-_, _+_, _≤_}
-use mathlib.Core.Path.{_≡_, sym, _∙_}
+use mathlib.Core.Path.{_≡_, refl, sym, _∙_}
 use mathlib.Core.Bool.{true}
 use native.Mathlib.Omega.{arith}
-use lib.ListN.{length}
+use lib.ListN.{length, length-replicate}
 use borrow.Author.Tests.{not-true, not-false}
 use borrow.Author.Needs.{needs}
 use Rattle.answer.specs.Answer.{told, isDone}
-use Rattle.chain.proofs.Reading.{Onward, onward-start, end-in, link-unmade}
-use Rattle.chain.proofs.Reading.{link-wide, link-taken, bytes-follow, links-read}
+use Rattle.morphology.specs.Chain.{mostLinks}
+use Rattle.chain.proofs.Reading.{Onward, onward-start, end-in}
+use Rattle.chain.proofs.Reading.{link-refused, link-taken, bytes-follow, links-read}
 use Rattle.chain.proofs.read_links.Statement.{statement}
 use Rattle.chain.proofs.read_links.Tie as tie
 
@@ -23,24 +24,21 @@ abbrev μ-loop : tie.MeasureT-loop
 abbrev inside : tie.After-descriptor-len Inv-loop μ-loop → tie.In-loop Inv-loop μ-loop
 inside c = c .before .before
 
-abbrev sized : tie.After-read-element Inv-loop μ-loop → tie.After-descriptor-len Inv-loop μ-loop
+abbrev sized : tie.After-read-link Inv-loop μ-loop → tie.After-descriptor-len Inv-loop μ-loop
 sized c = c .before .before
 
-abbrev read : tie.After-is-done Inv-loop μ-loop → tie.After-read-element Inv-loop μ-loop
-read c = c .before .before .before
+abbrev read : tie.After-is-done Inv-loop μ-loop → tie.After-read-link Inv-loop μ-loop
+read c = c .before .before
 
 ends : (c : tie.After-descriptor-len Inv-loop μ-loop) →
     inside c .before .loop .at + c .descriptor-len .result
-    ≤ length (inside c .before .before .before .args .d .now)
+    ≤ length (inside c .before .before .before .before .args .d .now)
 ends c =
     let b = inside c in
     end-in _ _ _ _ _ (b .before .loop .inv .1) (b .loop-test .taken) _ (c .descriptor-len .ensures)
 
-done : (c : tie.Else1 Inv-loop μ-loop) → isDone (told (read (c .before) .read-element .result .answer)) ≡ true
-done c = sym (c .before .is-done .ensures) ∙ not-false (c .before .is-done .result) (c .if1 .left)
-
 loop-holds : tie.Need-loop-holds Inv-loop μ-loop
-loop-holds c = (search needs, onward-start _ _ _ (c .before .good .0 .1 .0 .1))
+loop-holds c = (search needs, onward-start _ _ _ (length-replicate mostLinks (c .no-link .result)))
 
 add-end : tie.Need-add-end Inv-loop μ-loop
 add-end c = let z = ends c in omega arith
@@ -50,38 +48,27 @@ returns c =
     let r = read (c .before) in
     let z = sized r in
     let b = inside z in
-    link-unmade _ _ _ _ _ (b .before .loop .inv .1) (b .loop-test .taken) _ (z .descriptor-len .ensures)
-    (r .read-element .result) (r .read-element .ensures)
-    (sym (c .before .is-done .ensures) ∙ not-true (c .before .is-done .result) (c .if1 .taken))
-
-returns-2 : tie.Need-returns-2 Inv-loop μ-loop
-returns-2 c =
-    let e = c .before .before in
-    let r = read (e .before) in
-    let z = sized r in
-    let b = inside z in
-    link-wide _ _ _ _ _ (b .before .loop .inv .1) (b .loop-test .taken) _ (z .descriptor-len .ensures)
-    (r .read-element .result) (r .read-element .ensures) (done e)
-    (sym (c .before .is-small .ensures) ∙ not-true (c .before .is-small .result) (c .if2 .taken))
+    link-refused _ _ _ _ _ (b .before .loop .inv .1) (b .loop-test .taken) _ (z .descriptor-len .ensures)
+    _ _ (r .read-link .ensures)
+    (sym (c .before .is-done .ensures) ∙ not-true (c .before .is-done .result) (c .if1 .taken)) _ refl
 
 loop-again : tie.Need-loop-again Inv-loop μ-loop
 loop-again c =
-    let e = c .before .before in
-    let r = read (e .before) in
+    let r = read (c .before) in
     let z = sized r in
     let b = inside z in (
       search needs,
       link-taken _ _ _ _ _ (b .before .loop .inv .1) (b .loop-test .taken) _ (z .descriptor-len .ensures)
-          (r .read-element .result) (r .read-element .ensures) (done e)
-          (sym (c .before .is-small .ensures) ∙ not-false (c .before .is-small .result) (c .if2 .left))
-          (b .before .before .before .pre),
+          _ _ (r .read-link .ensures)
+          (sym (c .before .is-done .ensures) ∙ not-false (c .before .is-done .result) (c .if1 .left))
+          (b .before .before .before .before .pre),
     )
 
-returns-3 : tie.Need-returns-3 Inv-loop μ-loop
-returns-3 c = bytes-follow _ _ _ _ _ (c .before .before .loop .inv .1) (omega arith) (c .if3 .taken)
+returns-2 : tie.Need-returns-2 Inv-loop μ-loop
+returns-2 c = bytes-follow _ _ _ _ _ (c .before .before .loop .inv .1) (omega arith) (c .if2 .taken)
 
-returns-4 : tie.Need-returns-4 Inv-loop μ-loop
-returns-4 c = links-read _ _ _ _ _ (c .before .before .loop .inv .1) (omega arith) (c .if3 .left)
+returns-3 : tie.Need-returns-3 Inv-loop μ-loop
+returns-3 c = links-read _ _ _ _ _ (c .before .before .loop .inv .1) (omega arith) (c .if2 .left)
 
 pub read-links-spec : {M : Type 1} → statement M
 read-links-spec =
@@ -89,6 +76,7 @@ read-links-spec =
     (tie.spec
     Inv-loop
     μ-loop
+    (λ c κs. search needs)
     loop-holds
     (λ c. c .before .loop .inv .1 .inside)
     (λ c. c .before .loop .inv .1 .inside)
@@ -101,12 +89,10 @@ read-links-spec =
     (λ c κs. search needs)
     (λ c κs. search needs)
     returns
-    (λ c κs. search needs)
-    returns-2
     (λ c. search needs)
     (λ c. search needs)
     (λ c. search needs)
     (λ c. search needs)
     loop-again
-    returns-3
-    returns-4)
+    returns-2
+    returns-3)

@@ -3,17 +3,16 @@
 use Prim.Native.Nat.{_-_, _≤_}
 use native.Mathlib.Omega.{arith}
 use borrow.Author.Needs.{needs}
-use Rattle.rows.specs.Steps.Ways.{growsOf}
 use Rattle.chained.proofs.Buffers.{After, after-none, after-more, after-all, first-fits, second-fits}
 use Rattle.chained.proofs.each_link.Statement.{statement}
 use Rattle.chained.proofs.each_link.Tie as tie
 
 abbrev Inv-loop : tie.InvT-loop
-Inv-loop depth way w h source links first₀ second₀ all i₀ first second i =
-    (i ≤ links) × After (growsOf way) depth w h source all first₀ second₀ first second i
+Inv-loop depth grows w h source links first₀ second₀ all i₀ first second i =
+    (i ≤ links) × After grows depth w h source all first₀ second₀ first second i
 
 abbrev μ-loop : tie.MeasureT-loop
-μ-loop depth way w h source links first₀ second₀ all i₀ first second i = links - i
+μ-loop depth grows w h source links first₀ second₀ all i₀ first second i = links - i
 
 abbrev entry : tie.At-loop Inv-loop μ-loop → tie.Start Inv-loop μ-loop
 entry c = c .before .before .before .before

@@ -1,5 +1,5 @@
 -- The check stands between the tests of the picture and the room, so that the answer is the definition's.
--- Where it is done, the elements that were read are the links of the bytes,
+-- Where it is done, the links that were read are those of the bytes,
 -- and the loop leaves their results.
 use Prim.Native.Nat.{min}
 use mathlib.Core.Path.{_≡_, refl, sym, _∙_}
@@ -10,7 +10,6 @@ use borrow.Author.Needs.{needs}
 use Rattle.basics.specs.Bytes.{Bytes}
 use Rattle.answer.specs.Answer.{told, isDone}
 use Rattle.answer.proofs.Lent.{kept-by}
-use Rattle.rows.specs.Steps.Ways.{growsOf}
 use Rattle.chained.specs.Run.{runAnswer}
 use Rattle.chained.proofs.Answers.{answer-is, going, first-left, second-left}
 use Rattle.chained.proofs.run.Statement.{statement}
@@ -57,13 +56,13 @@ returns c =
     let a = entry j .args in (
       answered j,
       (
-        first-left (a .depth) (growsOf (a .way)) (a .w) (a .h) (a .source .now) (a .element .now) (a .links)
+        first-left (a .depth) (a .grows) (a .w) (a .h) (a .source .now) (a .element .now) (a .links)
             (a .chain .now) (a .first .now) (a .second .now)
             (links j .checked-links .result) (j .refusal .result) _
             (links j .checked-links .ensures) (j .before .lesser .ensures)
             (j .refusal .ensures) (done t) (chain-bytes j) _
             (l .each-link .ensures .0),
-        second-left (a .depth) (growsOf (a .way)) (a .w) (a .h) (a .source .now) (a .element .now) (a .links)
+        second-left (a .depth) (a .grows) (a .w) (a .h) (a .source .now) (a .element .now) (a .links)
             (a .chain .now) (a .first .now) (a .second .now)
             (links j .checked-links .result) (j .refusal .result) _
             (links j .checked-links .ensures) (j .before .lesser .ensures)

@@ -13,7 +13,7 @@ use Rattle.element.specs.declared.Element.{Element}
 use Rattle.element.specs.Descriptor.{wellMade, mostCells}
 use Rattle.element.specs.Record.{elementOf}
 use Rattle.element.proofs.WellMade.{cells-tell, made-cells}
-use Rattle.chain.proofs.Reading.{read-made, read-unmade, unmade-told, made-element}
+use Rattle.chainfor.proofs.Descriptors.{read-made, read-unmade, unmade-told, made-element}
 use Rattle.hulls.specs.declared.Hull.{Hull}
 use Rattle.hulls.specs.Hull.{hullIn, hullOf}
 use Rattle.chainfor.specs.Find.{tries, firstTry, within, chainFor, isFound}

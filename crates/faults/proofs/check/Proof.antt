@@ -5,7 +5,8 @@ use mathlib.Core.Path.{_≡_, _∙_}
 use native.Mathlib.Omega.{arith}
 use lib.ListN.{take}
 use borrow.Author.Needs.{needs}
-use Rattle.element.specs.Record.{shapeOf, shapeBy}
+use Rattle.element.specs.declared.Element.{Element}
+use Rattle.element.specs.Record.{shapeBy}
 use Rattle.morphology.specs.Check.{faultTest, checkOf}
 use Rattle.reach.specs.Steps.Links.{shapesOf, Linked}
 use Rattle.reach.proofs.Meaning.{board-small}
@@ -16,61 +17,65 @@ use Rattle.faults.proofs.check.Statement.{statement}
 use Rattle.faults.proofs.check.Tie as tie
 
 abbrev Inv-loop : tie.InvT-loop
-Inv-loop links k cells outline sums words n₀ n =
+Inv-loop outline cells links k sums words n₀ n =
     (n ≤ allOffsets)
     × (seek (faultTest (shapeBy outline cells) (shapesOf (take k links))) n (allOffsets - n)
     ≡ checkOf (shapeBy outline cells) (shapesOf (take k links)))
 
 abbrev μ-loop : tie.MeasureT-loop
-μ-loop links k cells outline sums words n₀ n = allOffsets - n
+μ-loop outline cells links k sums words n₀ n = allOffsets - n
+
+-- the element, by its parts
+abbrev element : tie.Start Inv-loop μ-loop → Element
+element s = record { outline = s .args .outline; rows = s .args .cells .now }
 
 -- at the board of all sums
 abbrev entry : tie.After-all-sums Inv-loop μ-loop → tie.Start Inv-loop μ-loop
-entry c = c .before .before .before
+entry c = c .before
 
 -- in the loop, and where an offset was tested there
 abbrev sums : tie.In-loop Inv-loop μ-loop → tie.After-all-sums Inv-loop μ-loop
 sums c = c .before .before .before
 
 abbrev numbered : tie.After-at-fault Inv-loop μ-loop → tie.After-offset-no Inv-loop μ-loop
-numbered c = c .before .before .before
+numbered c = c .before .before
 
 -- the test of the offset is the definition's
 told-here : (c : tie.After-at-fault Inv-loop μ-loop) → let a = entry (sums (numbered c .before)) .args in
-    faultTest (shapeOf (a .e)) (shapesOf (take (a .k) (a .links)))
+    faultTest (shapeBy (a .outline) (a .cells .now)) (shapesOf (take (a .k) (a .links)))
     (placeNo (numbered c .before .before .loop .n))
     ≡ c .at-fault .result
 told-here c =
     let o = numbered c in
     let b = sums (o .before) in
     let s = entry b in
-    fault-told (s .args .e) (s .args .links) (s .args .k) (s .pre .0) (s .pre .1) (b .all-sums .result)
+    fault-told (element s) (s .args .links) (s .args .k) (s .pre .0) (s .pre .1) (b .all-sums .result)
     (b .all-sums .ensures) (o .before .before .loop .n) (o .offset-no .result) _ (o .offset-no .ensures .0)
     (c .at-fault .ensures)
 
 all-sums-requires : tie.Need-all-sums-requires Inv-loop μ-loop
-all-sums-requires c κs = let s = c .before .before in linked (s .args .e) _ _ (s .pre .0) (s .pre .1)
+all-sums-requires c κs = let s = c in linked (element s) _ _ (s .pre .0) (s .pre .1)
 
 loop-holds : tie.Need-loop-holds Inv-loop μ-loop
 loop-holds c =
     let s = entry (c .before) in
-    (search needs, seek-start (s .args .e) (s .args .links) (s .args .k) (s .pre .0) (s .pre .1))
+    (search needs, seek-start (element s) (s .args .links) (s .args .k) (s .pre .0) (s .pre .1))
 
 at-fault-requires : tie.Need-at-fault-requires Inv-loop μ-loop
 at-fault-requires c κs =
-    let o = c .before .before in
+    let o = c .before in
     let b = sums (o .before) in
     let s = entry b in
     let l : Linked (s .args .links) (s .args .k) =
-    linked (s .args .e) (s .args .links) (s .args .k) (s .pre .0) (s .pre .1) in (
-      element-sized (s .args .e) (s .args .links) (s .args .k) (s .pre .0) (s .pre .1),
+    linked (element s) (s .args .links) (s .args .k) (s .pre .0) (s .pre .1) in (
+      element-sized (element s) (s .args .links) (s .args .k) (s .pre .0) (s .pre .1),
       (board-small (s .args .links) (s .args .k) l _ _ (b .all-sums .ensures), (l, o .offset-no .ensures .1)),
     )
 
-cast-x : tie.Need-cast-t14 Inv-loop μ-loop
+cast-x : tie.Need-cast-t12 Inv-loop μ-loop
 cast-x c = let o = numbered (c .before .before) .offset-no .ensures .1 in omega arith
 
-cast-y : tie.Need-cast-t15 Inv-loop μ-loop
+cast-y : tie.Need-cast-t13 Inv-loop μ-loop
 cast-y c = let o = numbered (c .before .before .before) .offset-no .ensures .1 in omega arith
 
 returns : tie.Need-returns Inv-loop μ-loop
@@ -79,7 +84,7 @@ returns c =
     let o = numbered f in
     let s = entry (sums (o .before)) in
     let l = o .before .before .loop in
-    found-told (s .args .e) (s .args .links) (s .args .k)
+    found-told (element s) (s .args .links) (s .args .k)
     (s .pre .0) (s .pre .1) (l .n) (o .offset-no .result)
     (o .offset-no .ensures .0)
     (seek-found _ (l .n) allOffsets _ (o .before .loop-test .taken) (l .inv .1)
@@ -98,7 +103,7 @@ returns-2 : tie.Need-returns-2 Inv-loop μ-loop
 returns-2 c =
     let s = entry (c .before .before .before) in
     let l = c .before .loop in
-    none-told (s .args .e) (s .args .links) (s .args .k) (s .pre .0) (s .pre .1)
+    none-told (element s) (s .args .links) (s .args .k) (s .pre .0) (s .pre .1)
     (seek-none _ (l .n) allOffsets _ (c .loop-test .left) (l .inv .1))
 
 pub check-spec : {M : Type 1} → statement M

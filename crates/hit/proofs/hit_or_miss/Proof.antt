@@ -1,5 +1,6 @@
 -- Nothing is written before all is judged: a refusal returns with the target as it was.
--- Else the picture is admitted and both elements are their descriptors' (`known`), and the rows do the rest.
+-- Where nothing is refused the picture is admitted and both descriptors are well made (`known`),
+-- and the rows do the rest.
 use Rattle.answer.proofs.Lent.{kept-by, made-by}
 use Rattle.picture.specs.declared.Depth.the-variants.{OneBit}
 use Rattle.picture.specs.Frame.{Holds}
@@ -9,8 +10,8 @@ use Rattle.judge.specs.declared.Padding.the-variants.{Free}
 use Rattle.judge.specs.Tests.{Admitted}
 use Rattle.judge.proofs.Admitted.{holds}
 use Rattle.apply.proofs.Applied.{ready}
-use Rattle.apply.proofs.Read.{fitting, element-is}
-use Rattle.hit.proofs.Pairs.{read-small, answer-is, pair-admitted, hit-given}
+use Rattle.apply.proofs.Read.{fitting}
+use Rattle.hit.proofs.Pairs.{answer-is, pair-admitted, hit-given}
 use lib.ListN.{length}
 use mathlib.Core.Bool.{true}
 use mathlib.Core.Path.{_≡_, sym, _∙_}
@@ -22,7 +23,7 @@ use Rattle.hit.proofs.hit_or_miss.Tie as tie
 
 -- where nothing is refused
 abbrev entry : tie.Then1 → tie.Start
-entry c = c .before .before .before .before .before .before .before .before .before .before
+entry c = c .before .before .before .before .before .before .before .before
 
 known : (c : tie.Then1) → let a = entry c .args in
     Admitted Free OneBit (a .w) (a .h) (a .source .now) 0 (length (a .target .now))
@@ -30,7 +31,7 @@ known : (c : tie.Then1) → let a = entry c .args in
 known c =
     let a = entry c .args in
     pair-admitted (a .w) (a .h) (a .source .now) (a .hit .now) (a .miss .now) (length (a .target .now)) _ _
-    (c .before .before .before .before .before .read-pair .ensures .0)
+    (c .before .before .before .pair-answer .ensures)
     (c .before .before .refusal .ensures) (sym (c .before .is-done .ensures) ∙ c .if1 .taken)
 
 source-holds : (c : tie.Then1) → let a = entry c .args in Holds OneBit (length (a .source .now)) (a .w) (a .h)
@@ -41,49 +42,49 @@ source-holds c =
 
 hit-rows-requires : tie.Need-hit-rows-requires
 hit-rows-requires c κs =
-    let i = c .before .before .before .before .before in
+    let i = c .before .before .before .before .before .before .before .before .before .before .before in
     let a = entry i .args in
-    let k = known i in
-    let r = i .before .before .before .before .before .read-pair in
-    let d = a .hit .now in
-    let m = a .miss .now in (
-      ready OneBit _ (a .w) (a .h) (r .result .hit) (source-holds i)
-          (fitting d (made-cells d (k .1 .0)) _ (element-is (wellMade d) d _ (r .ensures .1 .0) (k .1 .0))),
+    let k = known i in (
+      ready OneBit _ _ (a .w) (a .h) _ (source-holds i)
+          (fitting _ (made-cells _ (k .1 .0)) _ (c .before .before .before .before .before .before
+          .before .before .before .before .element-at .ensures)),
       (
-        ready OneBit _ (a .w) (a .h) (r .result .miss) (source-holds i)
-            (fitting m (made-cells m (k .1 .1)) _ (element-is (wellMade m) m _ (r .ensures .1 .1) (k .1 .1))),
+        ready OneBit _ _ (a .w) (a .h) _ (source-holds i)
+            (fitting _ (made-cells _ (k .1 .1)) _ (c .before .before .before .before .before .before
+            .before .before .before .element-at2 .ensures)),
         holds Free OneBit (a .w) (a .h) (a .source .now) _ (k .0 .sized) (omega (arith, k .0 .roomy)),
       ),
     )
 
 returns : tie.Need-returns
 returns c =
-    let i = c .before .before .before .before .before .before .before .before in
+    let i = c .before .before .before .before .before .before .before .before .before .before
+    .before .before .before .before in
     let a = entry i .args in
     let k = known i .1 in
-    let r = i .before .before .before .before .before .read-pair .ensures in
     let e = answer-is (a .w) (a .h) (a .source .now) (a .hit .now)
-    (a .miss .now) (length (a .target .now)) _ _ (r .0)
+    (a .miss .now) (length (a .target .now)) _ _ (i .before .before .before .pair-answer .ensures)
     (i .before .before .refusal .ensures) in (
       e,
       made-by (a .target .now) _ _ _ e _ (sym (i .before .is-done .ensures) ∙ i .if1 .taken)
           (hit-given (a .hit .now) (a .miss .now)
-          (λ j. let l =
-          i .before .before .before .before .before .before .before .before .shared-slice-known2 .given j in
-          omega arith)
-          (λ j. let l = i .before .before .before .before .before .before .before .shared-slice-known3 .given
-          j in omega arith) _ _ (r .1 .0) (r .1 .1)
-          (k .0) (k .1) (a .w) (a .h) (a .source .now)
-          (a .target .now) _ (c .before .before .hit-rows .ensures)),
+          (λ j. let l = i .before .before .before .before .before
+          .before .shared-slice-known2 .given j in omega arith)
+          (λ j. let l = i .before .before .before .before
+          .before .shared-slice-known3 .given j in omega arith)
+          (made-cells _ (k .0)) (made-cells _ (k .1)) _ _
+          (c .before .before .before .before .before .before .before .before .before .before .before
+          .before .before .element-at .ensures) (c .before .before .before .before .before .before
+          .before .before .before .before .before .before .element-at2 .ensures)
+          (a .w) (a .h) (a .source .now) (a .target .now) _ (c .before .before .hit-rows .ensures)),
     )
 
 returns-2 : tie.Need-returns-2
 returns-2 c =
-    let a = c .before .before .before .before .before .before .before .before .before .before .args in
+    let a = c .before .before .before .before .before .before .before .before .args in
     let e = answer-is (a .w) (a .h) (a .source .now)
     (a .hit .now) (a .miss .now) (length (a .target .now)) _ _
-    (c .before .before .before .before .before .read-pair .ensures .0)
-    (c .before .before .refusal .ensures) in
+    (c .before .before .before .pair-answer .ensures) (c .before .before .refusal .ensures) in
     (e, kept-by (a .target .now) _ _ _ e (sym (c .before .is-done .ensures) ∙ c .if1 .left))
 
 pub hit-or-miss-spec : {M : Type 1} → statement M
@@ -93,14 +94,8 @@ hit-or-miss-spec =
     (λ c κs. search needs)
     (λ c κs. search needs)
     (λ c κs. search needs)
-    (λ c.
-    let i = c .before .before .before .before in
-    sym (read-small (entry i .args .hit .now) _
-    (i .before .before .before .before .before .read-pair .ensures .1 .0) .words))
-    (λ c.
-    let i = c .before .before .before .before .before in
-    sym (read-small (entry i .args .miss .now) _
-    (i .before .before .before .before .before .read-pair .ensures .1 .1) .words))
+    (λ c κs. made-cells _ (known c .1 .0))
+    (λ c κs. made-cells _ (known (c .before) .1 .1))
     hit-rows-requires
     (λ c. search needs)
     returns

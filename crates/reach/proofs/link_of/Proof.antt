@@ -1,16 +1,15 @@
--- It stands on nothing: the first rows are what `first_rows` gives, and the outline is the element's own.
+-- The first rows are what `first_rows` gives, and the outline is the element's own.
 -- So the record is the definition's, part by part.
 use mathlib.Core.Path.{ap}
 use borrow.Author.Needs.{needs}
-use Rattle.reach.specs.Steps.Links.{linkOf}
+use Rattle.reach.specs.Steps.Links.{linkBy}
 use Rattle.reach.proofs.link_of.Statement.{statement}
 use Rattle.reach.proofs.link_of.Tie as tie
 
 returns : tie.Need-returns
-unfolding linkOf
+unfolding linkBy
 returns c =
-    let e = c .before .before .before .args .e in
-    ap (λ r. record { outline = e .outline; rows = r }) (c .first-rows .ensures)
+    ap (λ r. record { outline = c .before .args .outline; rows = r }) (c .first-rows .ensures)
 
 pub link-of-spec : {M : Type 1} → statement M
 link-of-spec = tie.close (tie.spec (λ c κs. search needs) returns)

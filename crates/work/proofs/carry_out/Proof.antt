@@ -5,11 +5,12 @@ use Rattle.work.proofs.Works.{worked-read}
 use Rattle.work.proofs.Outcomes.{carried-done, carried-refused}
 use Rattle.work.specs.Work.{shortest, workAnswer}
 use Rattle.work.specs.Steps.Taken.{Taken}
-use Rattle.answer.specs.Answer.{told, isDone}
+use Rattle.answer.specs.Answer.{told, plain, isDone}
+use Rattle.answer.specs.Refuse.{refuse}
 use Rattle.element.specs.Descriptor.{wellMade}
-use Rattle.element.specs.Record.{elementOf}
 use Rattle.element.proofs.WellMade.{made-cells}
-use Rattle.apply.proofs.Read.{fitting, element-is}
+use Rattle.judge.specs.Tests.{shapeTests}
+use Rattle.apply.proofs.Read.{fitting}
 use lib.ListN.{length}
 use mathlib.Core.Bool.{true}
 use mathlib.Core.Path.{_≡_, sym, ap, _∙_}
@@ -29,7 +30,8 @@ answered c = let a = entry c .args in
     answer-is (a .descriptor .now) (a .file .now) (a .source .now)
     (a .result .now) (a .scratch .now) (a .text .now) _ _ _ _
     (c .before .before .before .before .lesser .ensures) (c .before .before .before .lesser2 .ensures)
-    (c .before .before .read-element .ensures .0) (c .refusal .ensures)
+    (c .before .shape-answer .ensures
+    ∙ ap (λ m. refuse (shapeTests m) (plain 0)) (c .before .before .well-made .ensures)) (c .refusal .ensures)
 
 -- where nothing is refused
 done : (c : tie.Then1) → isDone (told (c .before .before .refusal .result)) ≡ true
@@ -44,21 +46,18 @@ known c = let a = entry (c .before .before) .args in
     (a .result .now) (a .scratch .now) (a .text .now)
     (ap isDone (sym (answered (c .before .before))) ∙ done c)
 
-element-known : (c : tie.Then1)
-    → c .before .before .before .before .read-element .result .element
-    ≡ elementOf (entry (c .before .before) .args .descriptor .now)
-element-known c = let d = entry (c .before .before) .args .descriptor .now in
-    element-is (wellMade d) d _ (c .before .before .before .before .read-element .ensures .1) (known c .0)
-
 work-out-requires : tie.Need-work-out-requires
-work-out-requires c κs = let t = c .before .before .before .before in
-    let d = entry (t .before .before) .args .descriptor .now in
-    (fitting d (made-cells d (known t .0)) _ (element-known t), known t .1)
+work-out-requires c κs = let t = c .before .before .before .before .before .before .before .before .before in
+    let d = entry (t .before .before) .args .descriptor .now in (
+      fitting d (made-cells d (known t .0)) _ (c .before .before .before .before .before .before
+          .before .before .element-at .ensures),
+      known t .1,
+    )
 
 returns : tie.Need-returns
 returns c =
-    let t = c .before .before .before .before .before .before
-    .before .before .before .before .before .before .before in
+    let t = c .before .before .before .before .before .before .before .before .before .before
+    .before .before .before .before .before .before .before .before in
     let s = entry (t .before .before) in
     let a = s .args in
     let d = a .descriptor .now in
@@ -71,7 +70,9 @@ returns c =
       t .before .before .before .before .before .before .before .before
           .before .before .before .before .shared-slice-known .given i,
     ))
-    _ (element-known t) (a .op) (a .file .now) (a .source .now)
+    _ (c .before .before .before .before .before .before .before .before .before .before .before
+    .before .before .before .before .before .before .element-at .ensures) (a .op) (a .file .now)
+    (a .source .now)
     (a .result .now) (a .scratch .now) (a .text .now) _ _ _ _ _
     (c .before .before .before .before .before .before .before .before .work-out .ensures))
 
@@ -93,6 +94,8 @@ carry-out-spec =
     (λ c κs. search needs)
     (λ c κs. search needs)
     (λ c κs. search needs)
+    (λ c κs. search needs)
+    (λ c κs. made-cells _ (known c .0))
     work-out-requires
     (λ c. search needs)
     (λ c. search needs)

@@ -2,7 +2,7 @@
 -- Where the picture's bytes are counted all of it is known (`lent`): the rest are laws of it.
 use Rattle.work.proofs.Works.{Lent, part-fits, source-held, result-held}
 use Rattle.work.proofs.Works.{scratch-held, text-taken, worked-out}
-use Rattle.element.specs.Record.{shapeOf}
+use Rattle.element.specs.Record.{shapeBy}
 use lib.ListN.{length}
 use lib.Seq.{length-take-le}
 use Prim.Native.Nat.{_≤_}
@@ -13,7 +13,7 @@ use Rattle.work.proofs.work_out.Statement.{statement}
 use Rattle.work.proofs.work_out.Tie as tie
 
 abbrev entry : tie.After-picture-bytes → tie.Start
-entry c = c .before .before .before .before .before .before .before .before .before .before .before
+entry c = c .before .before .before .before .before .before .before .before .before .before .before .before
 
 lent : (c : tie.After-picture-bytes) → let a = entry c .args in
     Lent (a .file .now) (a .source .now) (a .result .now) (a .scratch .now)
@@ -25,7 +25,7 @@ lent c = let g = c .before .before .before .before .read-ech .ensures in
       bytes = λ i. omega (
         arith,
         c .before .before .before .before .before .before .before
-            .before .before .before .shared-slice-known .given i,
+            .before .before .before .shared-slice-known2 .given i,
       );
       taken = entry c .pre .1;
       given = g .0;
@@ -46,14 +46,14 @@ put-text-requires : tie.Need-put-text-requires
 put-text-requires c κs = let o = c .before .before .before .before .before .before in
     let p = o .before .before .before .before in
     let a = entry p .args in
-    text-taken (lent p) (shapeOf (a .e)) (a .op) _ _ (o .operate .ensures)
-    (o .operate .kept .1 .1 .1 .1 .1 .1 .0)
+    text-taken (lent p) (shapeBy (a .o) (a .words .now)) (a .op) _ _ (o .operate .ensures)
+    (o .operate .kept .1 .1 .1 .1 .1 .1 .1 .0)
 
 returns : tie.Need-returns
 returns c = let o = c .before .before .before .before .before .before .before .before .before in
     let p = o .before .before .before .before in
     let a = entry p .args in
-    worked-out (lent p) (shapeOf (a .e))
+    worked-out (lent p) (shapeBy (a .o) (a .words .now))
     (a .op) _ _ (o .operate .ensures) _ _ (c .before .before .put-text .ensures)
 
 pub work-out-spec : {M : Type 1} → statement M

@@ -1,0 +1,69 @@
+-- Nothing is written before all is judged: a refusal returns with the target as it was.
+-- Where nothing is refused the picture is admitted and the element is the descriptor's (`judged`),
+-- and apply does the rest.
+use Rattle.flat.proofs.Known.{Known, known, answer-is, room-holds, element-ready, once-left}
+use Rattle.answer.specs.Answer.{told, isDone}
+use Rattle.answer.proofs.Lent.{kept-by}
+use Rattle.picture.specs.declared.Depth.the-variants.{OneBit}
+use Rattle.rows.specs.Steps.Ways.{growsOf}
+use lib.ListN.{length}
+use mathlib.Core.Bool.{true}
+use mathlib.Core.Path.{_≡_, refl, sym, _∙_}
+use native.Mathlib.Omega.{arith}
+use borrow.Author.Needs.{needs}
+use Rattle.flat.proofs.run_bits.Statement.{statement}
+use Rattle.flat.proofs.run_bits.Tie as tie
+
+-- where nothing is refused
+abbrev entry : tie.Then1 → tie.Start
+entry c = c .before .before .before .before .before .before .before
+
+judged : (c : tie.Then1) → let a = entry c .args in
+    Known OneBit (a .w) (a .h) (a .source .now) (a .element .now) (length (a .target .now))
+    (told (c .before .before .element-refusal .result))
+judged c = let a = entry c .args in
+    known OneBit (a .w) (a .h) (a .source .now) (a .element .now) _ _ _ _ refl
+    (c .before .before .before .well-made .ensures) (c .before .before .element-refusal .ensures)
+    (sym (c .before .is-done .ensures) ∙ c .if1 .taken)
+
+flat-bits-requires : tie.Need-flat-bits-requires
+flat-bits-requires c κs = let p = c .before .before .before .before .before .before .before in (
+  element-ready (judged p) _ (c .before .before .before .before .before
+      .before .element-at .ensures),
+  room-holds (judged p) _ (omega arith),
+)
+
+returns : tie.Need-returns
+returns c =
+    let p = c .before .before .before .before .before .before .before .before .before .before in
+    let a = entry p .args in (
+      judged p .given,
+      once-left (judged p) _ (c .before .before .before .before .before .before .before .before
+          .before .element-at .ensures)
+          (λ i. let l = p .before .before .before .before
+          .before .shared-slice-known2 .given i in omega arith)
+          (a .target .now) _ _ (growsOf (a .way)) (c .before .before .before .before .before .before
+          .before .before .is-growing .ensures)
+          (c .before .before .flat-bits .ensures),
+    )
+
+returns-2 : tie.Need-returns-2
+returns-2 c =
+    let a = c .before .before .before .before .before .before .before .args in
+    let e = answer-is OneBit (a .w) (a .h) (a .source .now) (a .element .now) _ (length (a .target .now)) _ _
+    refl (c .before .before .before .well-made .ensures) (c .before .before .element-refusal .ensures) in
+    (e, kept-by (a .target .now) _ _ _ e (sym (c .before .is-done .ensures) ∙ c .if1 .left))
+
+pub run-bits-spec : {M : Type 1} → statement M
+run-bits-spec =
+    tie.close
+    (tie.spec
+    (λ c κs. search needs)
+    (λ c κs. search needs)
+    (λ c κs. search needs)
+    (λ c κs. judged c .cells)
+    (λ c κs. search needs)
+    flat-bits-requires
+    (λ c. search needs)
+    returns
+    returns-2)
