@@ -15,13 +15,12 @@
  * Answers. The number is QIK_DONE or the first refusal that holds, in the order of the comment at each function. A refusal changes no byte.
  *
  * Stack. A call takes at most so many bytes of it, on x86-64 and on aarch64, with all that it calls, whatever the input; beside it the lent buffers, and no other memory.
- *    2,048  qik_erode1 qik_dilate1 qik_open1 qik_close1
- *    2,240  qik_white_tophat1 qik_black_tophat1 qik_gradient1
- *    5,264  qik_erode8 qik_dilate8 qik_open8 qik_close8 qik_white_tophat8 qik_black_tophat8 qik_gradient8
+ *    1,872  qik_erode1 qik_dilate1 qik_open1 qik_close1 qik_white_tophat1 qik_black_tophat1 qik_gradient1
+ *    4,096  qik_erode8 qik_dilate8 qik_open8 qik_close8 qik_white_tophat8 qik_black_tophat8 qik_gradient8
  *    2,688  qik_hit_or_miss
  *    3,776  qik_weighted_erode qik_weighted_dilate qik_weighted_open qik_weighted_close
- *    5,632  qik_check_chain
- *    6,400  qik_chain_erode1 qik_chain_dilate1 qik_chain_erode8 qik_chain_dilate8
+ *    4,416  qik_check_chain
+ *    4,736  qik_chain_erode1 qik_chain_dilate1 qik_chain_erode8 qik_chain_dilate8
  *    7,552  qik_find_chain
  *    1,088  qik_reconstruct_cross qik_reconstruct_square qik_size_spectrum
  *   82,480  qik_nesting

@@ -31,7 +31,7 @@ pub fn flat_bits(
         ≡ written OneBit (flatOf grows OneBit (now (s .entry)) w h o (now (words .entry)))
         w h (now (t .entry)) ⌝ }
 {
-    bitways::sweep(grows, s, t, w, h, o, words);
+    bitways::sweep(grows, &s[..], t, w, h, o, &words[..]);
 }
 
 // The same of an 8-bit picture.
@@ -51,7 +51,7 @@ pub fn flat_bytes(
         ≡ written Depth.EightBit (flatOf grows Depth.EightBit (now (s .entry)) w h o (now (words .entry)))
         w h (now (t .entry)) ⌝ }
 {
-    byteways::sweep(grows, s, t, w, h, o, words);
+    byteways::sweep(grows, &s[..], t, w, h, o, &words[..]);
 }
 
 // The same at either depth.

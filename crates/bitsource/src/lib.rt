@@ -192,12 +192,12 @@ fn pass(
     ensures { λ _. ⌜ PartOf Depth.OneBit grows (now (s .entry)) w h o (now (words .entry)) (k + 1) 0 0
         (now (t .exit)) ⌝ }
 {
-    if strokes::lacks_kind(words, o, k) {
+    if strokes::lacks_kind(&words[..], o, k) {
         return;
     }
     let mut v = 0;
     while v < h {
-        source_row(grows, t, w, h, Bin(v as u16), o, words, k, s);
+        source_row(grows, t, w, h, Bin(v as u16), o, &words[..], k, &s[..]);
         v += 1;
     }
 }
@@ -220,8 +220,8 @@ fn sweep_whole(
         (valueAt Depth.OneBit (now (s .entry)) w)) w h ⌝ }
 {
     rows::begin(grows, 255, t);
-    pass(grows, t, w, h, o, words, 0, s);
-    pass(grows, t, w, h, o, words, 1, s);
+    pass(grows, t, w, h, o, &words[..], 0, &s[..]);
+    pass(grows, t, w, h, o, &words[..], 1, &s[..]);
     copies::clear_padding(Depth::OneBit, t, w, h);
 }
 
@@ -236,5 +236,5 @@ pub fn sweep(grows: bool, s: &[u8], t: &mut [u8], w: usize, h: usize, o: Outline
         (valueAt Depth.OneBit (now (s .entry)) w)) w h (now (t .entry)) ⌝ }
 {
     let n = h * ((w + 7) / 8);
-    sweep_whole(grows, s, &mut t[..n], w, h, o, words);
+    sweep_whole(grows, &s[..], &mut t[..n], w, h, o, &words[..]);
 }

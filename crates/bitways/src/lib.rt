@@ -1,5 +1,6 @@
 // The ways that a one-bit picture goes by a flat element: in words, as a rectangle, by source rows, row by
 // row. Which one is a matter of time alone: the promise is the same.
+// Here and below, a slice is handed on as `&s[..]`: handed on as it came it would be copied in each frame.
 use bitrow::Task;
 use element::Outline;
 use element::RowWord;
@@ -37,7 +38,7 @@ fn sweep_bits(k: Task, s: &[u8], t: &mut [u8], w: usize, h: usize, o: Outline, w
     while y < h {
         let a = y * n;
         let z = a + n;
-        narrow::any_row(k, &mut t[a..z], s, w, h, Bin(y as u16), o, words);
+        narrow::any_row(k, &mut t[a..z], &s[..], w, h, Bin(y as u16), o, &words[..]);
         y += 1;
     }
 }
@@ -61,7 +62,7 @@ fn cells_in(words: &[RowWord], h: usize) -> usize
 fn is_dense(words: &[RowWord], h: usize) -> bool
     requires { ⌜ (h ≤ length (now words)) × (h ≤ mostCells) ⌝ }
 {
-    let n = cells_in(words, h);
+    let n = cells_in(&words[..], h);
     if n <= MANY {
         return false;
     }
@@ -80,17 +81,22 @@ fn wide_bits(grows: bool, s: &[u8], t: &mut [u8], w: usize, h: usize, o: Outline
         (valueAt Depth.OneBit (now (s .entry)) w)) w h (now (t .entry)) ⌝ }
 {
     if 1 < o.h {
-        if boxes::is_box(words, o) {
-            rectangle::bits(grows, s, t, w, h, o);
+        if boxes::is_box(&words[..], o) {
+            // a call for each way: a function with one call is taken into its caller, and its room with it
+            if grows {
+                rectangle::bits(true, &s[..], t, w, h, o);
+                return;
+            }
+            rectangle::bits(false, &s[..], t, w, h, o);
             return;
         }
     }
-    if is_dense(words, o.h) {
-        bitsource::sweep(grows, s, t, w, h, o, words);
+    if is_dense(&words[..], o.h) {
+        bitsource::sweep(grows, &s[..], t, w, h, o, &words[..]);
         return;
     }
     let k = Task { over: false, grows };
-    sweep_bits(k, s, t, w, h, o, words);
+    sweep_bits(k, &s[..], t, w, h, o, &words[..]);
 }
 
 // The erosion, or the dilation, of the one-bit picture in s by a flat element;
@@ -106,8 +112,8 @@ pub fn sweep(grows: bool, s: &[u8], t: &mut [u8], w: usize, h: usize, o: Outline
 {
     if w <= narrow::MOST {
         let k = Task { over: false, grows };
-        sweep_bits(k, s, t, w, h, o, words);
+        sweep_bits(k, &s[..], t, w, h, o, &words[..]);
         return;
     }
-    wide_bits(grows, s, t, w, h, o, words);
+    wide_bits(grows, &s[..], t, w, h, o, &words[..]);
 }

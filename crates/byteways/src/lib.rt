@@ -24,10 +24,10 @@ fn sweep_any(grows: bool, s: &[u8], t: &mut [u8], w: usize, h: usize, o: Outline
         (sweptBy grows flat 255 (frame w h) (shapeBy o (now (words .entry)))
         (valueAt Depth.EightBit (now (s .entry)) w)) w h (now (t .entry)) ⌝ }
 {
-    if few::sweep(grows, s, t, w, h, o, words) {
+    if few::sweep(grows, &s[..], t, w, h, o, &words[..]) {
         return;
     }
-    bysource::sweep(grows, s, t, w, h, o, words);
+    bysource::sweep(grows, &s[..], t, w, h, o, &words[..]);
 }
 
 // The erosion, or the dilation, of the 8-bit picture in s by a flat element: a rectangle goes its own way.
@@ -43,15 +43,15 @@ pub fn sweep(grows: bool, s: &[u8], t: &mut [u8], w: usize, h: usize, o: Outline
 {
     // a single cell is a copy
     if 2 < o.w + o.h {
-        if boxes::is_box(words, o) {
+        if boxes::is_box(&words[..], o) {
             // a call for each way: a function with one call is taken into its caller, and its room with it
             if grows {
-                rectangle::bytes(true, s, t, w, h, o);
+                rectangle::bytes(true, &s[..], t, w, h, o);
                 return;
             }
-            rectangle::bytes(false, s, t, w, h, o);
+            rectangle::bytes(false, &s[..], t, w, h, o);
             return;
         }
     }
-    sweep_any(grows, s, t, w, h, o, words);
+    sweep_any(grows, &s[..], t, w, h, o, &words[..]);
 }

@@ -12,8 +12,8 @@ use Rattle.basics.specs.Settles.{Settles}
 use Rattle.basics.proofs.Settled.{settled}
 use Rattle.chain.proofs.is_counted.Kinds as is-counted-kinds
 use Rattle.chain.proofs.is_counted.Reads as is-counted
-use Rattle.chain.proofs.checked_links.Kinds as checked-links-kinds
-use Rattle.chain.proofs.checked_links.Reads as checked-links
+use Rattle.chain.proofs.read_links.Kinds as read-links-kinds
+use Rattle.chain.proofs.read_links.Reads as read-links
 use Rattle.chain.proofs.check_chain.Kinds as check-chain-kinds
 use Rattle.chain.proofs.check_chain.Reads as check-chain
 
@@ -21,13 +21,13 @@ pub is-counted-settled : Settles 0 is-counted-kinds.ps is-counted-kinds.r is-cou
 is-counted-settled κs a x y s t p q = settled p q
 
 -- the answers; and the links, where the answer is done
-pub checked-links-settled : (κs : Lfts 2) (a : Dens κs checked-links-kinds.ps)
-    (x y : resT checked-links-kinds.r κs .Denot)
-    (s t : AtExit (endedOf 2 checked-links-kinds.ps checked-links-kinds.r) κs)
-    → checked-links.Learnt κs a x s → checked-links.Learnt κs a y t
+pub read-links-settled : (κs : Lfts 1) (a : Dens κs read-links-kinds.ps)
+    (x y : resT read-links-kinds.r κs .Denot)
+    (s t : AtExit (endedOf 1 read-links-kinds.ps read-links-kinds.r) κs)
+    → read-links.Learnt κs a x s → read-links.Learnt κs a y t
     → (x .answer ≡ y .answer)
     × (isDone (told (x .answer)) ≡ true → take (a .1 .0) (x .all) ≡ take (a .1 .0) (y .all))
-checked-links-settled κs a x y s t p q = (
+read-links-settled κs a x y s t p q = (
   same-answer (x .answer) (y .answer) _ (p .answered) (q .answered),
   λ z. let done = ap isDone (sym (p .answered)) ∙ z in p .links done ∙ sym (q .links done),
 )

@@ -4,9 +4,11 @@ use reach::Link;
 use reach::MOST_LINK_CELLS;
 use reach::MOST_LINKS;
 ghost use mathlib.Core.Path.{_≡_};
+ghost use mathlib.Core.Bool.{true};
 ghost use Prim.Native.Nat.{_≤_};
 ghost use Rattle.answer.specs.Answer.{told, plain};
 ghost use Rattle.answer.specs.Refuse.{refuse};
+ghost use Rattle.element.specs.Descriptor.{wellMade};
 ghost use Rattle.morphology.specs.Chain.{mostLinks};
 ghost use Rattle.chain.specs.Reading.{counted, small, linkTests, checked};
 ghost use Rattle.chain.specs.Steps.Records.{LinkAs, ReadAs};
@@ -71,7 +73,7 @@ fn read_link(d: &[u8]) -> OneLink
 }
 
 // k links, one after another, and nothing after them.
-fn read_links(d: &[u8], k: usize) -> Links
+pub fn read_links(d: &[u8], k: usize) -> Links
     requires { ⌜ k ≤ mostLinks ⌝ }
     ensures { λ r. ⌜ ReadAs (refuse (linkTests k (now (d .entry))) (plain 0)) k (now (d .entry)) r ⌝ }
 {
@@ -103,49 +105,35 @@ fn read_links(d: &[u8], k: usize) -> Links
     }
 }
 
-// The check, and the links that it read: where it is done, the first `links` of them.
-// Nothing calls itself: its stack is the same whatever the input (docs/HOST.md has it),
-// and it takes some milliseconds for the largest.
-pub fn checked_links(element: &[u8], links: usize, chain: &[u8]) -> Links
-    ensures { λ r. ⌜ ReadAs (checked (now (element .entry)) links (now (chain .entry)))
-        links (now (chain .entry)) r ⌝ }
+// The check of an element and a number of links that have passed, and of the links as they were read.
+// The chain itself is only what is said of it.
+fn judged(element: &[u8], links: usize, read: Links, chain: &[u8]) -> Answer
+    requires { ⌜ (wellMade (now element) ≡ true) × (counted links ≡ true) ⌝ }
+    requires { ⌜ ReadAs (refuse (linkTests links (now chain)) (plain 0)) links (now chain) read ⌝ }
+    ensures { λ r. ⌜ told r ≡ checked (now (element .entry)) links (now (chain .entry)) ⌝ }
 {
-    let none = reach::no_link();
-    let all = [none; MOST_LINKS];
-    let made = descriptor::well_made(element);
-    if !made {
-        return Links {
-            answer: Answer::Shape,
-            all,
-        };
-    }
-    if !is_counted(links) {
-        return Links {
-            answer: Answer::Chain,
-            all,
-        };
-    }
-    let read = read_links(chain, links);
     let refusal = read.answer;
     let held = read.all;
     if !answer::is_done(refusal) {
-        return Links {
-            answer: refusal,
-            all: held,
-        };
+        return refusal;
     }
     let e = reader::element_at(element);
     let o = e.outline;
-    Links {
-        answer: faults::check(o, &e.rows, held, links),
-        all: held,
-    }
+    faults::check(o, &e.rows, held, links)
 }
 
 // The check of an element's descriptor and of the descriptors of its links: done is accepted.
+// Nothing calls itself: its stack is the same whatever the input (docs/HOST.md has it),
+// and it takes some milliseconds for the largest.
 pub fn check_chain(element: &[u8], links: usize, chain: &[u8]) -> Answer
     ensures { λ r. ⌜ told r ≡ checked (now (element .entry)) links (now (chain .entry)) ⌝ }
 {
-    let read = checked_links(element, links, chain);
-    read.answer
+    let made = descriptor::well_made(element);
+    if !made {
+        return Answer::Shape;
+    }
+    if !is_counted(links) {
+        return Answer::Chain;
+    }
+    judged(element, links, read_links(chain, links), chain)
 }

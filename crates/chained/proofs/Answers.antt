@@ -1,5 +1,5 @@
 -- A run's answer: what is known where it is done, and the buffers by it.
-use Prim.Native.Nat.{ℕ, _≤_, min}
+use Prim.Native.Nat.{ℕ, min}
 use mathlib.Core.Path.{_≡_, refl, sym, ap, ap₂, _∙_}
 use mathlib.Core.Bool.{Bool, true}
 use mathlib.Core.List.{List}
@@ -12,18 +12,18 @@ use Rattle.answer.specs.Answer.{told, plain, isDone}
 use Rattle.answer.specs.Refuse.{refuse}
 use Rattle.answer.specs.Lent.{ifDone, unlessRefused}
 use Rattle.answer.proofs.Order.{NoneOf, passed-all, none-refuses}
-use Rattle.answer.proofs.Lent.{made-by}
+use Rattle.answer.proofs.Lent.{made-by, all-done}
 use Rattle.picture.specs.declared.Depth.{Depth}
+use Rattle.picture.specs.Bytes.{Picture}
 use Rattle.judge.specs.declared.Padding.the-variants.{Free}
 use Rattle.judge.specs.Tests.{pictureTests, roomTests, Admitted}
 use Rattle.judge.proofs.Admitted.{admitted, holds}
-use Rattle.morphology.specs.Chain.{mostLinks}
 use Rattle.chain.specs.declared.Links.{Links}
 use Rattle.chain.specs.Reading.{linkTests, chainTests, checkTests, counted, checked}
 use Rattle.chain.specs.Steps.Records.{heldIn, ReadAs}
 use Rattle.chain.proofs.Checking.{check-numbered, few-links}
 use Rattle.chained.specs.Run.{runAnswer, firstAfter, secondAfter}
-use Rattle.chained.specs.Steps.Buffers.{resultsBy, madeBy, Going}
+use Rattle.chained.specs.Steps.Buffers.{resultsBy, madeBy, Going, Linked}
 use Rattle.chained.proofs.Results.{fitting-here, made-alike}
 use Rattle.chained.proofs.Buffers.{first-alike, second-alike}
 
@@ -48,10 +48,10 @@ passed depth w h source element links chain room done =
 
 module _ (depth : Depth) (grows : Bool) (w h : ℕ)
     (source element : List ℕ) (links : ℕ) (chain first second : List ℕ)
-    (read : Links) (no : Answer) (room : ℕ) (ec : ReadAs (checked element links chain) links chain read)
+    (check no : Answer) (room : ℕ) (ec : told check ≡ checked element links chain)
     (er : room ≡ min (length first) (length second))
     (en : told no ≡ refuse (pictureTests Free depth w h source)
-    (ifDone (told (read .answer)) (refuse (roomTests depth w h 0 room) (plain 0)))) where
+    (ifDone (told check) (refuse (roomTests depth w h 0 room) (plain 0)))) where
   pub answer-is : told no
       ≡ runAnswer depth w h source element links chain (min (length first) (length second))
   unfolding runAnswer
@@ -59,51 +59,62 @@ module _ (depth : Depth) (grows : Bool) (w h : ℕ)
       en
       ∙ ap₂ (λ t r. refuse (pictureTests Free depth w h source)
       (ifDone t (refuse (roomTests depth w h 0 r) (plain 0))))
-      (ec .answered) er
+      ec er
 
-  module _ (done : isDone (told no) ≡ true) (bytes : Bytes chain) where
+  module _ (done : isDone (told no) ≡ true) where
     known : Passed depth w h source element links chain (min (length first) (length second))
     known =
         passed depth w h source element links chain (min (length first) (length second))
         (ap isDone (sym answer-is) ∙ done)
 
-    links-made : refuse (linkTests links chain) (plain 0) ≡ plain 0
+    pub linked : Linked depth w h (length source) links chain (length first) (length second)
     unfolding checkTests chainTests
-    links-made = none-refuses (linkTests links chain) (plain 0) (known .made .1 .1)
-
-    few : links ≤ mostLinks
-    unfolding checkTests chainTests
-    few = few-links links (not-false (counted links) (known .made .1 .0))
-
-    links-are : take links (read .all) ≡ heldIn links chain
-    links-are = ec .links (known .accepted)
-
-    pub going : Going depth w h (length source) (read .all) links (length first) (length second)
-    going =
+    linked =
         let p = known .picture in
         record {
-          few = few;
-          fitting = fitting-here depth w h source chain (read .all) links bytes links-made links-are;
+          few = few-links links (not-false (counted links) (known .made .1 .0));
+          made = none-refuses (linkTests links chain) (plain 0) (known .made .1 .1);
           source-holds = holds Free depth w h source (length source) (p .sized) (omega (arith, p .whole));
           first-holds = holds Free depth w h source (length first) (p .sized) (omega (arith, p .roomy));
           second-holds = holds Free depth w h source (length second) (p .sized) (omega (arith, p .roomy));
         }
 
-    -- the buffers that the loop has left
-    pub first-left : (u : List ℕ)
-        → u ≡ firstAfter depth w h (madeBy grows depth w h source (read .all)) links first
-        → u ≡ unlessRefused (told no) first
-        (firstAfter depth w h (resultsBy grows depth w h source chain) links first)
-    first-left u e =
-        made-by first _ (told no) (told no) refl u done
-        (e ∙ first-alike depth w h _ _ links first
-        (made-alike depth w h source chain (read .all) links bytes links-made links-are grows))
+    -- a buffer that is left by the results of the way that was found, which is the one asked for
+    pub left-by : (after : (ℕ → Picture) → List ℕ) (was u : List ℕ) (found : Bool) → grows ≡ found
+        → u ≡ after (resultsBy found depth w h source chain)
+        → u ≡ unlessRefused (told no) was (after (resultsBy grows depth w h source chain))
+    left-by after was u found q e =
+        made-by was _ (told no) (told no) refl u done
+        (e ∙ ap (λ g. after (resultsBy g depth w h source chain)) (sym q))
 
-    pub second-left : (u : List ℕ)
-        → u ≡ secondAfter depth w h (madeBy grows depth w h source (read .all)) links second
-        → u ≡ unlessRefused (told no) second
-        (secondAfter depth w h (resultsBy grows depth w h source chain) links second)
-    second-left u e =
-        made-by second _ (told no) (told no) refl u done
-        (e ∙ second-alike depth w h _ _ links second
-        (made-alike depth w h source chain (read .all) links bytes links-made links-are grows))
+-- the links that were read of a chain, of which none is refused
+module _ (depth : Depth) (grows : Bool) (w h : ℕ) (source : List ℕ) (links : ℕ) (chain first second : List ℕ)
+    (read : Links) (ask : Linked depth w h (length source) links chain (length first) (length second))
+    (er : ReadAs (refuse (linkTests links chain) (plain 0)) links chain read) (bytes : Bytes chain) where
+  links-are : take links (read .all) ≡ heldIn links chain
+  links-are = er .links (ap isDone (ask .made) ∙ all-done)
+
+  pub going : Going depth w h (length source) (read .all) links (length first) (length second)
+  going =
+      record {
+        few = ask .few;
+        fitting = fitting-here depth w h source chain (read .all) links bytes (ask .made) links-are;
+        source-holds = ask .source-holds;
+        first-holds = ask .first-holds;
+        second-holds = ask .second-holds;
+      }
+
+  -- the buffers that the loop has left
+  pub first-left : (u : List ℕ)
+      → u ≡ firstAfter depth w h (madeBy grows depth w h source (read .all)) links first
+      → u ≡ firstAfter depth w h (resultsBy grows depth w h source chain) links first
+  first-left u e =
+      e ∙ first-alike depth w h _ _ links first
+      (made-alike depth w h source chain (read .all) links bytes (ask .made) links-are grows)
+
+  pub second-left : (u : List ℕ)
+      → u ≡ secondAfter depth w h (madeBy grows depth w h source (read .all)) links second
+      → u ≡ secondAfter depth w h (resultsBy grows depth w h source chain) links second
+  second-left u e =
+      e ∙ second-alike depth w h _ _ links second
+      (made-alike depth w h source chain (read .all) links bytes (ask .made) links-are grows)

@@ -12,7 +12,7 @@ ghost use Rattle.answer.specs.Answer.{told};
 ghost use Rattle.answer.specs.Lent.{unlessRefused};
 ghost use Rattle.picture.specs.Frame.{Holds};
 ghost use Rattle.chained.specs.Run.{runAnswer, eroded, dilated, firstAfter, secondAfter};
-ghost use Rattle.chained.specs.Steps.Buffers.{Fit, resultsBy, madeBy, firstBy, secondBy, Going};
+ghost use Rattle.chained.specs.Steps.Buffers.{Fit, resultsBy, madeBy, firstBy, secondBy, Going, Linked};
 
 // The link after i others, from what the last of them left into the other buffer;
 // the first link reads the source.
@@ -82,6 +82,37 @@ fn each_link(
     }
 }
 
+// The links of a chain that was checked, read once more: so what the check holds and what the run holds
+// never stand on the stack together.
+fn run_links(
+    depth: Depth,
+    grows: bool,
+    w: usize,
+    h: usize,
+    source: &[u8],
+    links: usize,
+    chain: &[u8],
+    first: &mut [u8],
+    second: &mut [u8],
+)
+    requires { ⌜ Linked depth w h (length (now source)) links (now chain) (length (now first))
+        (length (now second)) ⌝ }
+    ensures first { λ _. ⌜
+        now (first .exit)
+        ≡ firstAfter depth w h
+        (resultsBy grows depth w h (now (source .entry)) (now (chain .entry))) links
+        (now (first .entry)) ⌝ }
+    ensures second { λ _. ⌜
+        now (second .exit)
+        ≡ secondAfter depth w h
+        (resultsBy grows depth w h (now (source .entry)) (now (chain .entry))) links
+        (now (second .entry)) ⌝ }
+{
+    let read = chain::read_links(chain, links);
+    let all = read.all;
+    each_link(depth, grows, w, h, source, all, links, first, second);
+}
+
 fn run(
     depth: Depth,
     grows: bool,
@@ -111,13 +142,16 @@ fn run(
         (resultsBy grows depth w h (now (source .entry)) (now (chain .entry))) links
         (now (second .entry))) ⌝ }
 {
-    let read = chain::checked_links(element, links, chain);
-    let check = read.answer;
-    let all = read.all;
+    let check = chain::check_chain(element, links, chain);
     let room = basics::lesser(first.len(), second.len());
     let no = judge::refusal(Padding::Free, depth, w, h, source, check, 0, room);
     if answer::is_done(no) {
-        each_link(depth, grows, w, h, source, all, links, first, second);
+        // a call for each way: a function with one call is taken into its caller, and its links with it
+        if grows {
+            run_links(depth, true, w, h, source, links, chain, first, second);
+            return no;
+        }
+        run_links(depth, false, w, h, source, links, chain, first, second);
         return no;
     }
     no

@@ -48,11 +48,13 @@ module _ (words : List ℕ) (o : Outline) (few : o .w ≤ mostCells) (box : isBo
         x y flat
         (top (depthIf packed)))
 
-    -- and so does a picture that is written by it
-    pub as-box : (packed grows : Bool) (s t u : List ℕ) (w h : ℕ)
-        → u ≡ written (depthIf packed) (boxed packed grows s w h o) w h t
+    -- and so does a picture that is written by it, the way that was found to be the one asked for
+    pub as-box : (packed grows found : Bool) (s t u : List ℕ) (w h : ℕ) → grows ≡ found
+        → u ≡ written (depthIf packed) (boxed packed found s w h o) w h t
         → u ≡ written (depthIf packed)
         (sweptBy grows flat (top (depthIf packed)) (frame w h) (shapeBy o words) (valueAt (depthIf packed) s
         w)) w h t
-    as-box packed grows s t u w h eu =
-        eu ∙ written-same (depthIf packed) _ _ w h t (λ x y lx ly. box-same packed grows s w h x y)
+    as-box packed grows found s t u w h q eu =
+        eu
+        ∙ ap (λ g. written (depthIf packed) (boxed packed g s w h o) w h t) (sym q)
+        ∙ written-same (depthIf packed) _ _ w h t (λ x y lx ly. box-same packed grows s w h x y)

@@ -1,5 +1,7 @@
 // A whole picture by a rectangle, at either depth: the rows that a result row sees are joined down the
 // columns, two result rows at a time, and then windows along the row.
+// Each depth has its loop beside its room: a smaller function would be taken into its caller, and the room
+// with it, above whatever else the caller calls.
 use element::Outline;
 ghost use mathlib.Core.Path.{_≡_};
 ghost use mathlib.Core.Bool.{true, false};
@@ -8,41 +10,12 @@ ghost use Rattle.picture.specs.declared.Depth.the-variants.{OneBit, EightBit};
 ghost use Rattle.picture.specs.Frame.{Holds};
 ghost use Rattle.picture.specs.Bytes.{written};
 ghost use Rattle.rows.specs.Steps.Ready.{Ready};
-ghost use Rattle.joins.specs.Steps.Joins.{depthIf};
 ghost use Rattle.boxlaw.specs.Steps.Box.{boxed};
-ghost use Rattle.boxpair.specs.Steps.Fit.{BoxFit};
 
 // A padded row: what an element reaches before it and past it, and what the last block reads.
 const ROOM_BITS: usize = 200;
 
 const ROOM_BYTES: usize = 1224;
-
-// The whole picture, two rows at a time, in the room of one padded row; what lies past it in t stays.
-fn sweep(
-    packed: bool,
-    grows: bool,
-    s: &[u8],
-    t: &mut [u8],
-    b: &mut [u8],
-    w: usize,
-    h: usize,
-    o: Outline,
-)
-    requires { ⌜ BoxFit packed (length (now s)) (length (now t)) (length (now b)) w h o ⌝ }
-    ensures { λ _. ⌜ now (t .exit)
-        ≡ written (depthIf packed) (boxed packed grows (now (s .entry)) w h o) w h (now (t .entry)) ⌝ }
-{
-    let mut y = 0;
-    while y + 1 < h {
-        boxpair::upper(packed, grows, s, t, b, w, h, o, y, y + 1);
-        boxpair::lower(packed, grows, t, b, w, h, o, y + 1);
-        y += 2;
-    }
-    if y < h {
-        boxpair::upper(packed, grows, s, t, b, w, h, o, y, y);
-        return;
-    }
-}
 
 // The erosion, or the dilation, of a one-bit picture by a rectangle. What stands in the padding of s never
 // counts, and the padding of t is 0.
@@ -53,7 +26,16 @@ pub fn bits(grows: bool, s: &[u8], t: &mut [u8], w: usize, h: usize, o: Outline)
         ≡ written OneBit (boxed true grows (now (s .entry)) w h o) w h (now (t .entry)) ⌝ }
 {
     let mut b = [0u8; ROOM_BITS];
-    sweep(true, grows, s, t, &mut b, w, h, o);
+    let mut y = 0;
+    while y + 1 < h {
+        boxpair::upper(true, grows, s, t, &mut b, w, h, o, y, y + 1);
+        boxpair::lower(true, grows, t, &mut b, w, h, o, y + 1);
+        y += 2;
+    }
+    if y < h {
+        boxpair::upper(true, grows, s, t, &mut b, w, h, o, y, y);
+        return;
+    }
 }
 
 // The same of an 8-bit picture.
@@ -64,5 +46,14 @@ pub fn bytes(grows: bool, s: &[u8], t: &mut [u8], w: usize, h: usize, o: Outline
         ≡ written EightBit (boxed false grows (now (s .entry)) w h o) w h (now (t .entry)) ⌝ }
 {
     let mut b = [0u8; ROOM_BYTES];
-    sweep(false, grows, s, t, &mut b, w, h, o);
+    let mut y = 0;
+    while y + 1 < h {
+        boxpair::upper(false, grows, s, t, &mut b, w, h, o, y, y + 1);
+        boxpair::lower(false, grows, t, &mut b, w, h, o, y + 1);
+        y += 2;
+    }
+    if y < h {
+        boxpair::upper(false, grows, s, t, &mut b, w, h, o, y, y);
+        return;
+    }
 }

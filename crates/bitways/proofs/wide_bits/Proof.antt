@@ -2,7 +2,7 @@
 -- row by row: `rows-of-bits`. Each is the flat operation.
 use Rattle.bitways.proofs.Ways.{rows-of-bits}
 use Rattle.rectangle.proofs.Boxes.{as-box}
-use mathlib.Core.Bool.{true}
+use mathlib.Core.Bool.{true, false}
 use mathlib.Core.Path.{sym, _∙_}
 use borrow.Author.Needs.{needs}
 use Rattle.bitways.proofs.wide_bits.Statement.{statement}
@@ -10,14 +10,26 @@ use Rattle.bitways.proofs.wide_bits.Tie as tie
 
 returns : tie.Need-returns
 returns c = let s = c .before .before .before .before .before .before .before .before .before .before
-    .before in
+    .before .before in
     let a = s .args in
     as-box (a .words .now) (a .o) (s .pre .0 .few-wide)
-    (sym (c .before .before .before .before .before .is-box .ensures) ∙ c .before .before .before .before
-    .if2 .taken) true (a .grows) (a .s .now) (a .t .now) _ (a .w) (a .h) (c .before .before .bits .ensures)
+    (sym (c .before .before .before .before .before .before .is-box .ensures)
+    ∙ c .before .before .before .before .before .if2 .taken) true (a .grows) true (a .s .now)
+    (a .t .now) _ (a .w)
+    (a .h) (c .before .before .before .before .if3 .taken) (c .before .before .bits .ensures)
 
-returns-3 : tie.Need-returns-3
-returns-3 c = let a = c .before .before .before .before .before .before .before .before .before .before
+returns-2 : tie.Need-returns-2
+returns-2 c = let s = c .before .before .before .before .before .before .before .before .before .before
+    .before .before in
+    let a = s .args in
+    as-box (a .words .now) (a .o) (s .pre .0 .few-wide)
+    (sym (c .before .before .before .before .before .before .is-box .ensures)
+    ∙ c .before .before .before .before .before .if2 .taken) true (a .grows) false (a .s .now)
+    (a .t .now) _ (a .w)
+    (a .h) (c .before .before .before .before .if3 .left) (c .before .before .bits2 .ensures)
+
+returns-4 : tie.Need-returns-4
+returns-4 c = let a = c .before .before .before .before .before .before .before .before .before .before
     .before .args in
     rows-of-bits (a .w) (a .h) (a .o) (a .words .now) (a .s .now) (a .t .now) _ (a .grows)
     (c .before .before .sweep-bits .ensures)
@@ -31,9 +43,12 @@ wide-bits-spec =
     (λ c. search needs)
     returns
     (λ c κs. search needs)
+    (λ c. search needs)
+    returns-2
+    (λ c κs. search needs)
     (λ c κs. search needs)
     (λ c. search needs)
     (λ c. search needs)
     (λ c κs. search needs)
     (λ c. search needs)
-    returns-3)
+    returns-4)

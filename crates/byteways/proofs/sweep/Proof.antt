@@ -1,6 +1,5 @@
--- A rectangle does what its row words do: `as-box`, the way that was asked for: `as-found`.
+-- A rectangle does what its row words do, the way that was asked for: `as-box`.
 -- Any other element, or a single cell, goes its own way.
-use Rattle.byteways.proofs.Ways.{as-found}
 use Rattle.rectangle.proofs.Boxes.{as-box}
 use mathlib.Core.Bool.{true, false}
 use mathlib.Core.Path.{sym, _∙_}
@@ -13,24 +12,20 @@ returns c =
     let s = c .before .before .before .before .before .before .before .before .before .before .before
     .before in
     let a = s .args in
-    as-found (a .w) (a .h) (a .o) (a .words .now) (a .s .now) (a .t .now) _ (a .grows) true
-    (c .before .before .before .before .if3 .taken)
-    (as-box (a .words .now) (a .o) (s .pre .0 .few-wide)
+    as-box (a .words .now) (a .o) (s .pre .0 .few-wide)
     (sym (c .before .before .before .before .before .before .is-box .ensures)
-    ∙ c .before .before .before .before .before .if2 .taken) false true (a .s .now) (a .t .now) _ (a .w)
-    (a .h) (c .before .before .bytes .ensures))
+    ∙ c .before .before .before .before .before .if2 .taken) false (a .grows) true (a .s .now) (a .t .now) _
+    (a .w) (a .h) (c .before .before .before .before .if3 .taken) (c .before .before .bytes .ensures)
 
 returns-2 : tie.Need-returns-2
 returns-2 c =
     let s = c .before .before .before .before .before .before .before .before .before .before .before
     .before in
     let a = s .args in
-    as-found (a .w) (a .h) (a .o) (a .words .now) (a .s .now) (a .t .now) _ (a .grows) false
-    (c .before .before .before .before .if3 .left)
-    (as-box (a .words .now) (a .o) (s .pre .0 .few-wide)
+    as-box (a .words .now) (a .o) (s .pre .0 .few-wide)
     (sym (c .before .before .before .before .before .before .is-box .ensures)
-    ∙ c .before .before .before .before .before .if2 .taken) false false (a .s .now) (a .t .now) _ (a .w)
-    (a .h) (c .before .before .bytes2 .ensures))
+    ∙ c .before .before .before .before .before .if2 .taken) false (a .grows) false (a .s .now) (a .t .now) _
+    (a .w) (a .h) (c .before .before .before .before .if3 .left) (c .before .before .bytes2 .ensures)
 
 pub sweep-spec : {M : Type 1} → statement M
 sweep-spec =

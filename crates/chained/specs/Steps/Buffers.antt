@@ -1,10 +1,13 @@
 -- How the loop over links goes:
 -- one link from what is before it into the other buffer, by the links that were read.
 use Prim.Native.Nat.{ℕ, zero, suc, _%_, _≤_, _<_}
+use mathlib.Core.Path.{_≡_}
 use mathlib.Core.Bool.{Bool, true, false, cond}
 use mathlib.Core.List.{List}
 use lib.Dec.{eqb}
 use lib.ListN.{length, getD}
+use Rattle.answer.specs.Answer.{plain}
+use Rattle.answer.specs.Refuse.{refuse}
 use Rattle.picture.specs.declared.Depth.{Depth}
 use Rattle.picture.specs.Frame.{Holds}
 use Rattle.picture.specs.Points.{valueAt}
@@ -13,6 +16,7 @@ use Rattle.morphology.specs.Chain.{mostLinks}
 use Rattle.apply.specs.Steps.Applied.{Fitting, flatBy}
 use Rattle.reach.specs.declared.Link.{Link}
 use Rattle.reach.specs.Steps.Links.{emptyLink}
+use Rattle.chain.specs.Reading.{linkTests}
 use Rattle.chained.specs.Run.{eroded, dilated}
 
 -- a link within its limits, and the operation by it
@@ -52,6 +56,14 @@ secondBy grows depth w h i e first second =
 pub record Going (depth : Depth) (w h source : ℕ) (links : List Link) (k one two : ℕ) : Type 0 where
   pub few : k ≤ mostLinks
   pub fitting : (i : ℕ) → i < k → Fit (getD links i emptyLink)
+  pub source-holds : Holds depth source w h
+  pub first-holds : Holds depth one w h
+  pub second-holds : Holds depth two w h
+
+-- the same before they are read: few descriptors, none of them refused
+pub record Linked (depth : Depth) (w h source k : ℕ) (chain : List ℕ) (one two : ℕ) : Type 0 where
+  pub few : k ≤ mostLinks
+  pub made : refuse (linkTests k chain) (plain 0) ≡ plain 0
   pub source-holds : Holds depth source w h
   pub first-holds : Holds depth one w h
   pub second-holds : Holds depth two w h
