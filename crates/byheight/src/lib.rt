@@ -29,11 +29,36 @@ fn fill(grows: bool, b: &mut [u8], e: &mut [u8], s: &[u8])
     heightsigns::ends_of(grows, e, b);
 }
 
+fn one_at(v: u8, end: u8) -> usize
+    ensures { λ r. ⌜ r ≤ 1 ⌝ }
+{
+    if v == end { 1 } else { 0 }
+}
+
+// Whether a row of two blocks or more has few values at the end that has to be held, by one column in 32:
+// where it has many, joining without what holds them is tried in vain.
+fn few_ends(grows: bool, s: &[u8]) -> bool
+    requires { ⌜ length (now s) ≤ mostPings ⌝ }
+{
+    if s.len() < 128 {
+        return false;
+    }
+    let end = blocks::beyond(grows);
+    let mut n = 0;
+    let mut i = 0;
+    while i < s.len() {
+        n += one_at(s[i], end);
+        i += 32;
+    }
+    8 * n <= s.len() / 32
+}
+
 // One row of the element from source row v, which stands in b and e:
 // joined into the row of the result that sees row v by it, if the frame has that row.
 // The source itself is only what is said of it.
 fn add_row(
     grows: bool,
+    bold: bool,
     t: &mut [u8],
     w: usize,
     h: usize,
@@ -64,17 +89,19 @@ fn add_row(
     let c = column.0 as usize;
     let first = r * o.w;
     let mut rising = [0u16; CELLS];
-    let k = heightsigns::cells_of(&mut rising, grows, true, word, o.w, c, hs, first);
     let mut others = [0u16; CELLS];
-    let m = heightsigns::cells_of(&mut others, grows, false, word, o.w, c, hs, first);
+    let n = heightsigns::cells_both(&mut rising, &mut others, grows, word, o.w, c, hs, first);
+    let k = n.rising;
+    let m = n.others;
     let a = y * w;
     let z = a + w;
-    weighblocks::join_row(grows, &mut t[a..z], b, e, &rising[..k], &others[..m]);
+    freeblocks::join_row(grows, bold, &mut t[a..z], b, e, &rising[..k], &others[..m]);
 }
 
 // All rows of the element, from source row v.
 fn spread(
     grows: bool,
+    bold: bool,
     t: &mut [u8],
     w: usize,
     h: usize,
@@ -95,7 +122,21 @@ fn spread(
 {
     let mut r = 0;
     while r < o.h {
-        add_row(grows, t, w, h, b, e, v, o, words, hs, Bin(r as u16), s);
+        add_row(
+            grows,
+            bold,
+            t,
+            w,
+            h,
+            b,
+            e,
+            v,
+            o,
+            words,
+            hs,
+            Bin(r as u16),
+            s,
+        );
         r += 1;
     }
 }
@@ -123,7 +164,8 @@ fn source_row(
     let a = (v.0 as usize) * w;
     let z = a + w;
     fill(grows, &mut b, &mut e, &s[a..z]);
-    spread(grows, t, w, h, &b, &e, v, o, words, hs, s);
+    let bold = few_ends(grows, &s[a..z]);
+    spread(grows, bold, t, w, h, &b, &e, v, o, words, hs, s);
 }
 
 // The whole picture into a target of just its size.

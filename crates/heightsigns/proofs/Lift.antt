@@ -15,10 +15,10 @@ use Rattle.rows.specs.Steps.Ways.{weighBy}
 use Rattle.weighblocks.specs.Steps.Lift.{liftBy}
 use Rattle.heightsigns.specs.Steps.Sides.{risesOf, sideOf, sizeOf, endOf}
 
-and-all : (x : ℕ) → x < 256 → bitAnd x 255 ≡ x
+pub and-all : (x : ℕ) → x < 256 → bitAnd x 255 ≡ x
 and-all x h = let e : bitAnd x 255 ≡ x % 256 = and-mask x 8 in omega arith
 
-or-all : (x : ℕ) → x < 256 → bitOr x 255 ≡ 255
+pub or-all : (x : ℕ) → x < 256 → bitOr x 255 ≡ 255
 or-all x h = omega (arith, or-add-and x 255, and-all x h)
 
 -- ---- a height below the sign, and one from there on

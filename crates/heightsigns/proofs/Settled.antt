@@ -4,6 +4,8 @@ use Rattle.basics.specs.Settles.{Settles, SettlesBytes}
 use Rattle.basics.proofs.Settled.{settled}
 use Rattle.heightsigns.proofs.cells_of.Kinds as cells-of-kinds
 use Rattle.heightsigns.proofs.cells_of.Reads as cells-of
+use Rattle.heightsigns.proofs.cells_both.Kinds as cells-both-kinds
+use Rattle.heightsigns.proofs.cells_both.Reads as cells-both
 use Rattle.heightsigns.proofs.ends_of.Kinds as ends-of-kinds
 use Rattle.heightsigns.proofs.ends_of.Reads as ends-of
 
@@ -13,6 +15,20 @@ cells-of-settled κs a x y s t p q = settled (p .0) (q .0)
 pub cells-of-numbers-settled : SettlesBytes 2 cells-of-kinds.ps cells-of-kinds.r cells-of.Learnt
     (λ κs e. e .0 .now)
 cells-of-numbers-settled κs a x y s t p q = settled (p .1) (q .1)
+
+pub cells-both-settled : Settles 3 cells-both-kinds.ps cells-both-kinds.r cells-both.Learnt
+cells-both-settled κs a x y s t p q = λ i. record {
+  rising = settled (p .0 .0) (q .0 .0) i;
+  others = settled (p .0 .1) (q .0 .1) i;
+}
+
+pub cells-both-rising-settled : SettlesBytes 3 cells-both-kinds.ps cells-both-kinds.r cells-both.Learnt
+    (λ κs e. e .0 .now)
+cells-both-rising-settled κs a x y s t p q = settled (p .1 .0) (q .1 .0)
+
+pub cells-both-others-settled : SettlesBytes 3 cells-both-kinds.ps cells-both-kinds.r cells-both.Learnt
+    (λ κs e. e .1 .0 .now)
+cells-both-others-settled κs a x y s t p q = settled (p .1 .1) (q .1 .1)
 
 pub ends-of-settled : SettlesBytes 2 ends-of-kinds.ps ends-of-kinds.r ends-of.Learnt (λ κs e. e .1 .0 .now)
 ends-of-settled κs a x y s t p q = settled p q

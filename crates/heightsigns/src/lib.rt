@@ -3,7 +3,7 @@
 use element::RowWord;
 use picture::Ping;
 ghost use mathlib.Core.Path.{_≡_};
-ghost use mathlib.Core.Bool.{cond};
+ghost use mathlib.Core.Bool.{cond, true, false};
 ghost use Prim.Native.Nat.{_+_, _*_, _≤_, _<_};
 ghost use lib.ListN.{length, getD};
 ghost use Rattle.basics.specs.Lists.{firsts};
@@ -96,6 +96,50 @@ pub fn cells_of(
         c += 1;
     }
     n
+}
+
+// How many cells of a row raise, and how many do not.
+pub struct Counts {
+    pub rising: usize,
+    pub others: usize,
+}
+
+// Both sides at once, each into its own list: a cell's number is stored in both, and counted in one.
+pub fn cells_both(
+    rising: &mut [u16],
+    others: &mut [u16],
+    grows: bool,
+    word: RowWord,
+    wide: usize,
+    o: usize,
+    heights: &[u8],
+    first: usize,
+) -> Counts
+    requires { ⌜ (o < mostCells) × ((wide ≤ mostCells) × (first ≤ mostCells * mostCells)) ⌝ }
+    requires { ⌜ (length (now rising) ≡ mostCells) × (length (now others) ≡ mostCells) ⌝ }
+    ensures counts { λ r. ⌜ (r .rising ≡ countOf true word (now (heights .entry)) first wide)
+        × (r .others ≡ countOf false word (now (heights .entry)) first wide) ⌝ }
+    ensures up { λ _. ⌜ now (rising .exit)
+        ≡ cellsOf grows true word o (now (heights .entry)) first (now (rising .entry)) wide ⌝ }
+    ensures down { λ _. ⌜ now (others .exit)
+        ≡ cellsOf grows false word o (now (heights .entry)) first (now (others .entry)) wide ⌝ }
+{
+    let mut n = 0;
+    let mut m = 0;
+    let mut c = 0;
+    while c < wide {
+        let g = height_at(heights, first + c);
+        let k = entry(packedline::cell_place(grows, o, c), size_of(g));
+        rising[n] = k;
+        others[m] = k;
+        n += takes(word, Ping(c as u16), true, g);
+        m += takes(word, Ping(c as u16), false, g);
+        c += 1;
+    }
+    Counts {
+        rising: n,
+        others: m,
+    }
 }
 
 // What holds a value at the end: 0 stays 0 in a dilation, 255 stays 255 in an erosion.

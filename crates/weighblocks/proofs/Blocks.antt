@@ -16,7 +16,7 @@ use Rattle.blocks.proofs.Laid.{laid-none, laid-next, laid-same, still, length-l
 use Rattle.weighblocks.specs.Steps.Lift.{liftBy}
 use Rattle.weighblocks.specs.Steps.Cells.{cellBlock, foundBy, atCells, bothAt, weighedRow}
 
-swap : (i d j : ℕ) → i + d + j ≡ i + j + d
+pub swap : (i d j : ℕ) → i + d + j ≡ i + j + d
 swap i d j = omega arith
 
 got : (f : ℕ → ℕ) (l : List ℕ) → l ≡ firsts f 64 → (j : ℕ) → j < 64 → getD l j 0 ≡ f j

@@ -111,7 +111,7 @@ fn join_cells(
 }
 
 // The cells that raise, then those that do not.
-fn join_both(
+pub fn join_both(
     grows: bool,
     c: [u8; blocks::BLOCK],
     b: &[u8],
@@ -184,7 +184,7 @@ fn put_some(t: &mut [u8], at: usize, n: usize, c: [u8; blocks::BLOCK])
 }
 
 // The bytes of the row from i on, fewer than a block.
-fn join_rest(
+pub fn join_rest(
     grows: bool,
     t: &mut [u8],
     i: usize,

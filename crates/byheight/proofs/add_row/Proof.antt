@@ -2,6 +2,7 @@
 -- they find is joined into the row that sees row v by it: `part-join`.
 use Rattle.heightsigns.proofs.Line.{cells-near}
 use Rattle.byheight.proofs.Part.{part-out, part-join}
+use Rattle.heightsigns.specs.Steps.Taken.{Taken}
 use Rattle.heightsigns.proofs.Cells.{taken-is}
 use Rattle.sourceparts.proofs.Bytes.{row-at, row-long}
 use Rattle.bitrow.specs.Steps.Added.{rowIn}
@@ -57,72 +58,82 @@ returns c =
     part-out (a .grows) (a .s .now) (a .w) (a .h) (a .o) (a .words .now) (a .hs .now) (a .v .0) (a .row .0) _
     (a .t .now) (c .before .source-row .ensures) (c .if1 .taken) (s .pre .1 .1 .1)
 
-cells-of-requires : tie.Need-cells-of-requires
-cells-of-requires c κs =
-    let e = c .before .before .before .before .before .before in
-    ((origin-lt e, (entry e .pre .0 .few-wide, near e)), refl)
+cells-both-requires : tie.Need-cells-both-requires
+cells-both-requires c κs =
+    let e = c .before .before .before .before .before .before .before in
+    ((origin-lt e, (entry e .pre .0 .few-wide, near e)), (refl, refl))
 
-cells-of-requires-2 : tie.Need-cells-of-requires-2
-cells-of-requires-2 c κs =
-    let e = c .before .before .before .before .before .before .before .before .before in
-    ((origin-lt e, (entry e .pre .0 .few-wide, near e)), refl)
+-- both lists, as they are found
+up : (c : tie.After-others2) → let a = entry (c .before .before .before .before .before .before .before
+    .before .before .before) .args in
+    Taken (a .grows) true (getD (a .words .now) (a .row .0) 0) (a .o .w) (a .o .origin .ping .0) (a .hs .now)
+    (a .row .0 * a .o .w) (c .before .before .cells-both .result .rising) (c .before
+    .before .cells-both .last .0)
+up c =
+    let s = entry (c .before .before .before .before .before .before .before .before .before .before) in
+    let p = c .before .before .cells-both in
+    taken-is (s .args .grows) true _ _ _ _ _ _ (p .result .rising) (p .last .0) refl (s .pre .0 .few-wide)
+    (p .ensures .0 .0) (p .ensures .1 .0)
 
-array-share-prefix-rising : tie.Need-array-share-prefix-rising
-array-share-prefix-rising c =
-    let s = entry (c .before .before .before .before .before .before .before .before .before .before
-    .before .before) in
-    let p = c .before .before .before .before .before .cells-of in
-    let t = taken-is (s .args .grows) true _ _ _ _ _ _ (p .result) (p .last .0) refl (s .pre .0 .few-wide)
-    (p .ensures .0) (p .ensures .1) in
-    omega (arith, t .few, t .long, s .pre .0 .few-wide)
+down : (c : tie.After-others2) → let a = entry (c .before .before .before .before .before .before .before
+    .before .before .before) .args in
+    Taken (a .grows) false (getD (a .words .now) (a .row .0) 0) (a .o .w) (a .o .origin .ping .0) (a .hs .now)
+    (a .row .0 * a .o .w) (c .before .before .cells-both .result .others)
+    (c .before .before .cells-both .last .1 .0)
+down c =
+    let s = entry (c .before .before .before .before .before .before .before .before .before .before) in
+    let p = c .before .before .cells-both in
+    taken-is (s .args .grows) false _ _ _ _ _ _ (p .result .others) (p .last .1 .0) refl (s .pre .0 .few-wide)
+    (p .ensures .0 .1) (p .ensures .1 .1)
+
+-- and there is room for them
+up-room : (c : tie.After-others2) → let p = c .before .before .cells-both in
+    p .result .rising ≤ length (p .last .0)
+up-room c = let t = up c in omega (
+  arith,
+  t .few,
+  t .long,
+  entry (c .before .before .before .before .before
+      .before .before .before .before .before) .pre .0 .few-wide,
+)
+
+down-room : (c : tie.After-others2) → let p = c .before .before .cells-both in
+    p .result .others ≤ length (p .last .1 .0)
+down-room c = let t = down c in omega (
+  arith,
+  t .few,
+  t .long,
+  entry (c .before .before .before .before
+      .before .before .before .before .before .before) .pre .0 .few-wide,
+)
 
 slice-aggregate-join-row : tie.Need-slice-aggregate-join-row
 slice-aggregate-join-row c =
-    let s = entry (c .before .before .before .before .before .before .before .before .before .before
-    .before .before .before) in
-    let p = c .before .before .before .before .before .before .cells-of in
-    let t = taken-is (s .args .grows) true _ _ _ _ _ _ (p .result) (p .last .0) refl (s .pre .0 .few-wide)
-    (p .ensures .0) (p .ensures .1) in
-    sym (length-take-le (p .result) (p .last .0) (omega (arith, t .few, t .long, s .pre .0 .few-wide)))
-
-array-share-prefix-others : tie.Need-array-share-prefix-others
-array-share-prefix-others c =
-    let s = entry (c .before .before .before .before .before .before .before .before .before .before
-    .before .before .before) in
-    let p = c .before .before .before .cells-of2 in
-    let t = taken-is (s .args .grows) false _ _ _ _ _ _ (p .result) (p .last .0) refl (s .pre .0 .few-wide)
-    (p .ensures .0) (p .ensures .1) in
-    omega (arith, t .few, t .long, s .pre .0 .few-wide)
+    let p = c .before .before .before .before .cells-both in
+    sym (length-take-le (p .result .rising) (p .last .0) (up-room (c .before .before)))
 
 slice-aggregate-join-row-2 : tie.Need-slice-aggregate-join-row-2
 slice-aggregate-join-row-2 c =
-    let s = entry (c .before .before .before .before .before .before .before .before .before .before
-    .before .before .before .before) in
-    let p = c .before .before .before .before .cells-of2 in
-    let t = taken-is (s .args .grows) false _ _ _ _ _ _ (p .result) (p .last .0) refl (s .pre .0 .few-wide)
-    (p .ensures .0) (p .ensures .1) in
-    sym (length-take-le (p .result) (p .last .0) (omega (arith, t .few, t .long, s .pre .0 .few-wide)))
+    let p = c .before .before .before .before .before .cells-both in
+    sym (length-take-le (p .result .others) (p .last .1 .0) (down-room (c .before .before .before)))
 
 join-row-requires : tie.Need-join-row-requires
 join-row-requires c κs =
     let e = c .before .before .before .before .before .before .before .before .before .before .before
-    .before .before .before in
+    .before .before in
     let s = entry e in
     let a = s .args in
-    let p = c .before .before .before .before .before .before .before .cells-of in
-    let q = c .before .before .before .before .cells-of2 in
+    let p = c .before .before .before .before .before .cells-both in
     let few = s .pre .0 .few-wide in
     let l = part-length (a .t .now) (e .before .source-row .result * a .w) (a .w) (room e) in (
       omega (arith, l, s .pre .0 .few-pings),
       (
-        (s .pre .1 .1 .0 .values, s .pre .1 .1 .0 .ends),
+        (s .pre .1 .1 .0 .values, (s .pre .1 .1 .0 .ends, s .pre .1 .1 .0 .held)),
         (
-          cells-near (a .grows) true _ _ _ _ _ (p .result) (p .last .0) few (origin-lt e)
-              (taken-is (a .grows) true _ _ _ _ _ _ (p .result) (p .last .0) refl few (p .ensures .0)
-              (p .ensures .1)),
-          cells-near (a .grows) false _ _ _ _ _ (q .result) (q .last .0) few (origin-lt e)
-              (taken-is (a .grows) false _ _ _ _ _ _ (q .result) (q .last .0) refl few (q .ensures .0)
-              (q .ensures .1)),
+          cells-near (a .grows) true _ _ _ _ _ (p .result .rising) (p .last .0) few (origin-lt e)
+              (up (c .before .before .before)),
+          cells-near (a .grows) false _ _ _ _ _ (p .result .others) (p .last .1 .0) few (origin-lt e)
+              (down (c .before .before .before)),
         ),
       ),
     )
@@ -130,26 +141,24 @@ join-row-requires c κs =
 returns-2 : tie.Need-returns-2
 returns-2 c =
     let e = c .before .before .before .before .before .before .before .before .before .before .before
-    .before .before .before .before .before .before in
+    .before .before .before .before .before in
     let s = entry e in
     let a = s .args in
-    let p = c .before .before .before .before .before .before .before .before .before .before .cells-of in
-    let q = c .before .before .before .before .before .before .before .cells-of2 in
+    let p = c .before .before .before .before .before .before .before .before .cells-both in
     let j = c .before .before .join-row in
     let y = e .before .source-row in
     let few = s .pre .0 .few-wide in
     part-join (a .grows) (a .s .now) (a .w) (a .h) (a .o) (a .words .now) (a .hs .now) (a .v .0) (a .row .0)
     (y .result) (a .t .now) (s .pre .0 .few-pings) (s .pre .1 .0 .1 .0) (omega arith) (s .pre .1 .0 .1 .1)
     few (s .pre .0 .column) (s .pre .1 .0 .0) (y .ensures)
-    (a .b .now) (a .e .now) (rowIn (a .w) (a .s .now) (a .v .0)) (j .last .1 .0)
+    (a .b .now) (a .e .now) (rowIn (a .w) (a .s .now) (a .v .0)) (j .last .1 .1 .0)
     (λ i. let f = e .before .before .before .before .before .before .before .shared-slice-known .given i in
     omega arith)
     (row-at (a .s .now) (a .w) (a .v .0))
     (row-long (a .s .now) (a .w) (a .h) (a .v .0) (s .pre .1 .0 .1 .0) (s .pre .0 .source))
-    (s .pre .1 .1 .0) (p .result) (q .result) (p .last .0) (q .last .0)
-    (taken-is (a .grows) true _ _ _ _ _ _ (p .result) (p .last .0) refl few (p .ensures .0) (p .ensures .1))
-    (taken-is (a .grows) false _ _ _ _ _ _ (q .result) (q .last .0) refl few (q .ensures .0) (q .ensures .1))
-    (j .ensures) (s .pre .1 .1 .1)
+    (s .pre .1 .1 .0) (p .result .rising) (p .result .others) (p .last .0) (p .last .1 .0)
+    (up (c .before .before .before .before .before .before)) (down (c .before .before .before .before
+    .before .before)) (j .ensures) (s .pre .1 .1 .1)
 
 pub add-row-spec : {M : Type 1} → statement M
 add-row-spec =
@@ -163,25 +172,24 @@ add-row-spec =
     (λ c. search needs)
     (λ c. omega (arith, near (c .before .before .before .before .before)))
     (λ c. search needs)
-    cells-of-requires
     (λ c. search needs)
-    cells-of-requires-2
+    cells-both-requires
     (λ c. omega (
       arith,
       small (c .before .before .before .before .before .before .before .before .before
-          .before .before),
+          .before),
     ))
     (λ c. omega (
       arith,
       small (c .before .before .before .before .before .before .before .before .before
-          .before .before),
+          .before),
     ))
     (λ c. search needs)
     (λ c. search needs)
-    (λ c. room (c .before .before .before .before .before .before .before .before .before .before .before))
-    array-share-prefix-rising
+    (λ c. room (c .before .before .before .before .before .before .before .before .before .before))
+    (λ c. up-room (c .before))
     slice-aggregate-join-row
-    array-share-prefix-others
+    (λ c. down-room (c .before .before))
     slice-aggregate-join-row-2
     join-row-requires
     (λ c. search needs)

@@ -1,4 +1,4 @@
--- Source row v stands in b and e: `fill`.
+-- Source row v stands in b and e: `fill`. Whether it has few ends makes no difference to what is joined.
 -- From there the rows of the element are joined in: `spread`.
 use Rattle.heightsigns.specs.Steps.Padded.{Padded}
 use Rattle.basics.proofs.Lists.{part-length}
@@ -29,12 +29,19 @@ fill-requires c κs =
           (c .before .before .before .before .beyond .ensures),
     )
 
+few-ends-requires : tie.Need-few-ends-requires
+few-ends-requires c κs =
+    let s = c .before .before .before .before .before .before .before .before .before
+    .before .before .before .before in
+    let a = s .args in
+    omega (arith, part-length (a .s .now) (a .v .0 * a .w) (a .w) (room s), s .pre .0 .few-pings)
+
 spread-requires : tie.Need-spread-requires
 spread-requires c κs =
     let s = c .before .before .before .before .before .before .before .before .before .before .before
-    .before .before .before .before in
+    .before .before .before .before .before .before in
     let a = s .args in
-    let f = c .before .before .before .before .before .fill in (
+    let f = c .before .before .before .before .before .before .before .fill in (
       s .pre .0,
       (
         (s .pre .1 .0 .0, s .pre .1 .0 .1),
@@ -60,6 +67,11 @@ source-row-spec =
     (λ c. search needs)
     (λ c. room (c .before .before .before .before .before .before .before .before))
     fill-requires
+    (λ c. search needs)
+    (λ c. search needs)
+    (λ c. room (c .before .before .before .before .before .before .before .before .before
+    .before .before .before))
+    few-ends-requires
     (λ c. search needs)
     (λ c. search needs)
     spread-requires

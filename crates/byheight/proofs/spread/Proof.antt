@@ -11,11 +11,11 @@ use Rattle.byheight.proofs.spread.Statement.{statement}
 use Rattle.byheight.proofs.spread.Tie as tie
 
 abbrev Inv-loop : tie.InvT-loop
-Inv-loop grows t₀ w h b e v o words hs s r₀ t r =
+Inv-loop grows bold t₀ w h b e v o words hs s r₀ t r =
     (r ≤ o .h) × (length t ≡ length t₀) × Part grows s w h o words hs (v .0) r t
 
 abbrev μ-loop : tie.MeasureT-loop
-μ-loop grows t₀ w h b e v o words hs s r₀ t r = o .h - r
+μ-loop grows bold t₀ w h b e v o words hs s r₀ t r = o .h - r
 
 loop-holds : tie.Need-loop-holds Inv-loop μ-loop
 loop-holds c = (search needs, refl, c .before .before .before .before .before .before .pre .1 .1 .1)
@@ -30,7 +30,7 @@ loop-again : tie.Need-loop-again Inv-loop μ-loop
 loop-again c =
     let l = c .before .before .before .before .before .before .loop in
     let r = c .before .before .add-row in
-    (search needs, r .kept .1 .0 ∙ l .inv .1, r .ensures)
+    (search needs, r .kept .1 .1 .0 ∙ l .inv .1, r .ensures)
 
 same-length : tie.Need-same-length Inv-loop μ-loop
 same-length c = c .before .before .loop .inv .1
