@@ -161,6 +161,30 @@ laid-next a n m f g t u v h e q each =
     whole : (n i : ℕ) → n ≤ i → n + (i - n) ≡ i
     whole n i h = omega arith
 
+-- a further part c that may lie over what was set, with the same elements
+pub laid-over : (F : ℕ → ℕ) (a i m : ℕ) (t u v c : List ℕ) → i ≤ a → a ≤ i + m → i + m ≤ length t
+    → u ≡ laid 0 a F t → c ≡ firsts (λ j. F (i + j)) m → v ≡ laid i m (λ j. getD c j 0) u
+    → v ≡ laid 0 (i + m) F t
+laid-over F a i m t u v c near reach fits eu ec ev =
+    let len : length u ≡ length t = ap length eu ∙ length-laid 0 a F t in
+    laid-is 0 (i + m) F t v (ap length ev ∙ length-laid i m _ u ∙ len)
+    (λ j h k. absurd (omega arith))
+    (λ j h k. ap (λ x. getD v x 0) (none j) ∙ ap (λ l. getD l j 0) ev ∙ ⊎-elim
+    (λ b. get-before i m _ u j (omega (arith, len, h)) b ∙ ap (λ l. getD l j 0) eu
+    ∙ get-first a F t j (omega arith) (omega (arith, b)))
+    (λ b. ap (λ x. getD (laid i m (λ j. getD c j 0) u) x 0) (on i j b)
+    ∙ get-in i m _ u (j - i) (omega (arith, len)) (omega (arith, b, k))
+    ∙ ap (λ l. getD l (j - i) 0) ec ∙ getD-firsts _ m (j - i) (omega (arith, b, k)) ∙ ap F (sym (on i j b)))
+    (below-or-not j i))
+    (λ j h k. ap (λ l. getD l j 0) ev ∙ get-after i m _ u j (omega (arith, len, h)) (omega (arith, k))
+    ∙ ap (λ l. getD l j 0) eu ∙ get-after 0 a F t j h (omega (arith, k)))
+  where
+    none : (j : ℕ) → 0 + j ≡ j
+    none j = omega arith
+
+    on : (i j : ℕ) → i ≤ j → j ≡ i + (j - i)
+    on i j h = omega arith
+
 -- ---- a block of n places, set anew from its first on
 module _ (n : ℕ) (f : ℕ → ℕ) (a c : List ℕ) (i : ℕ) (len : length a ≡ n) (so : c ≡ laid 0 i f a) where
   pub block-more : (v : ℕ) → i < n → v ≡ f i → set c i v ≡ laid 0 (i + 1) f a

@@ -1,27 +1,40 @@
 -- Rows joined one after another, a block or a byte at a time.
-use Prim.Native.Nat.{ℕ, zero, suc, _+_, _-_, _*_, _≤_, _<_}
+use Prim.Native.Nat.{ℕ, zero, suc, _+_, _-_, _*_, _≤_, _<_, max}
 use mathlib.Core.Path.{_≡_, refl, sym, ap, ap₂, _∙_, subst}
 use mathlib.Core.Bool.{Bool}
 use mathlib.Core.List.{List}
+use mathlib.Core.Logic.{⊎-elim}
 use native.Mathlib.Omega.{arith}
+use native.Mathlib.Nat.{mul-le-mul-right}
 use native.Mathlib.Numerals.{add-one}
 use lib.ListN.{length, getD, replicate, getD-replicate, length-replicate}
 use Rattle.basics.specs.Lists.{firsts}
-use Rattle.basics.proofs.Lists.{getD-firsts, firsts-same, length-firsts, list-is}
+use Rattle.basics.proofs.Lists.{getD-firsts, firsts-same, list-is}
+use Rattle.basics.proofs.SliceParts.{below-or-not}
 use Rattle.picture.proofs.Sizes.{row-room}
 use Rattle.morphology.specs.Operations.{fold}
 use Rattle.rows.specs.Steps.Fold.{startBy}
 use Rattle.joins.specs.Steps.Joins.{joinAt, joinedAt}
 use Rattle.blocks.specs.Steps.Laid.{laid}
-use Rattle.blocks.proofs.Laid.{laid-next, laid-whole}
-use Rattle.columns.specs.Steps.Down.{downAt, alsoAt, Pair}
+use Rattle.blocks.proofs.Laid.{get-first}
+use Rattle.columns.specs.Steps.Down.{downAt, alsoAt, Pair, Inside}
 
--- row lo + v lies in the bytes
-pub row-in : (lo v count n m : ℕ) → v < count → (lo + count) * n ≤ m → (lo + v) * n + n ≤ m
-row-in lo v count n m h k = omega (arith, row-room n (less lo v count h), k)
+-- a number of rows is no greater than their bytes
+some-bytes : (a n : ℕ) → 1 ≤ n → a ≤ a * n
+some-bytes zero n h = omega arith
+some-bytes (suc a) n h = omega (arith, some-bytes a n h)
+
+-- row lo + v lies in ns bytes, and so do k bytes from where it begins; so does its number
+pub row-in : (lo v count n k ns : ℕ) → v < count → (lo + count) * n + k ≤ ns + n → 1 ≤ n
+    → ((lo + v) * n + k ≤ ns) × (lo + v ≤ ns)
+row-in lo v count n k ns h fits some =
+    (within, omega (arith, some-bytes (lo + v) n some, within))
   where
     less : (lo v count : ℕ) → v < count → lo + v < lo + count
     less lo v count h = omega arith
+
+    within : (lo + v) * n + k ≤ ns
+    within = omega (arith, row-room n (less lo v count h), fits)
 
 module _ (packed grows : Bool) (s : List ℕ) (n lo : ℕ) where
   pub down-none : (i : ℕ) → startBy grows 255 ≡ downAt packed grows s n lo 0 i
@@ -66,41 +79,74 @@ module _ (packed grows : Bool) (s : List ℕ) (n lo : ℕ) where
       group : (a i m : ℕ) → a + i + m ≡ a + (i + m)
       group a i m = omega arith
 
+  -- the same at byte 0
+  pub also-first : (count row : ℕ) (c d : List ℕ) → c ≡ firsts (λ m. downAt packed grows s n lo count (0
+      + m)) 64
+      → d ≡ joinedAt packed grows c s (row * n) → d ≡ firsts (alsoAt packed grows s n lo count row) 64
+  also-first count row c d ec ed =
+      also-block count row 0 c d ec (ed ∙ ap (joinedAt packed grows c s) (more (row * n)))
+      ∙ firsts-same _ _ 64 (λ m h. ap (alsoAt packed grows s n lo count row) (none m))
+    where
+      more : (x : ℕ) → x ≡ x + 0
+      more x = omega arith
+
+      none : (m : ℕ) → 0 + m ≡ m
+      none m = omega arith
+
   pub also-byte : (count row i c d : ℕ) → c ≡ downAt packed grows s n lo count i
       → d ≡ joinAt packed grows c (getD s (row * n + i) 0) → d ≡ alsoAt packed grows s n lo count row i
   unfolding alsoAt
   also-byte count row i c d ec ed = ed ∙ ap (λ a. joinAt packed grows a (getD s (row * n + i) 0)) ec
 
--- a number of rows is no greater than their bytes
-some-bytes : (a n : ℕ) → 1 ≤ n → a ≤ a * n
-some-bytes zero n h = omega arith
-some-bytes (suc a) n h = omega (arith, some-bytes a n h)
+-- a row made the way that was asked for
+pub as-asked : (packed grows way : Bool) (s u : List ℕ) (n lo count row : ℕ) → grows ≡ way
+    → u ≡ firsts (alsoAt packed way s n lo count row) n → u ≡ firsts (alsoAt packed grows s n lo count row) n
+as-asked packed grows way s u n lo count row e eu =
+    eu ∙ ap (λ g. firsts (alsoAt packed g s n lo count row) n) (sym e)
 
-pub few-rows : (lo count n m : ℕ) → 1 ≤ n → (lo + count) * n ≤ m → lo + count ≤ m
-few-rows lo count n m h k = omega (arith, some-bytes (lo + count) n h)
+-- ---- the rows of a source of ns bytes
+-- the numbers of the rows are no greater
+pub rows-few : (ns n nz first lo count last : ℕ) → Pair ns n nz first lo count last → 1 ≤ n
+    → (first + 1 ≤ ns) × (last + 1 ≤ ns) × (lo + count ≤ ns)
+rows-few ns n nz first lo count last p some = (
+  omega (arith, some-bytes (first + 1) n some, p .one),
+  omega (arith, some-bytes (last + 1) n some, p .other),
+  omega (arith, some-bytes (lo + count) n some, p .common),
+)
 
--- the same of rows that are as long
-pub pair-still : (ns n nz m mz first lo count last : ℕ) → Pair ns n nz first lo count last → m ≡ n → mz ≡ nz
-    → Pair ns m mz first lo count last
-pair-still ns n nz m mz first lo count last p e q =
+-- e is the row past the last that is read: it tells of them all
+pub rows-inside : (ns n m first lo count last e : ℕ) → e ≡ max (max first last + 1) (lo + count)
+    → e * n + m ≤ ns + n → Inside ns n m first lo count last
+rows-inside ns n m first lo count last e ee fits =
+    let rows : lo + count ≤ e = omega (arith, ee) in
     record {
-      same = q ∙ p .same ∙ sym e;
-      common = subst (λ k. (lo + count) * k ≤ ns) (sym e) (p .common);
-      one = subst (λ k. first * k + k ≤ ns) (sym e) (p .one);
-      other = subst (λ k. last * k + k ≤ ns) (sym e) (p .other);
+      common = omega (arith, mul-le-mul-right n rows, fits);
+      one = omega (arith, row-room n (before first e (omega (arith, ee))), fits);
+      other = omega (arith, row-room n (before last e (omega (arith, ee))), fits);
     }
-
--- both parts of a row: the blocks, and then the bytes
-pub parts : (F : ℕ → ℕ) (i n m : ℕ) (t u v : List ℕ) → length t ≡ n → i ≤ n → m ≡ n → u ≡ laid 0 i F t
-    → v ≡ laid i (m - i) (λ j. F (i + j)) u → v ≡ firsts F n
-parts F i n m t u v len low em eu ev =
-    laid-whole n F t v len
-    (laid-next 0 i (m - i) F (λ j. F (i + j)) t u v (omega arith) eu
-    (ev ∙ ap (λ a. laid a (m - i) (λ j. F (i + j)) u) (zero-plus i)) (λ j h. refl)
-    ∙ ap (λ a. laid 0 a F t) (whole i m n low em))
   where
-    zero-plus : (i : ℕ) → i ≡ 0 + i
-    zero-plus i = omega arith
+    before : (a e : ℕ) → a + 1 ≤ e → a < e
+    before a e h = omega arith
 
-    whole : (i m n : ℕ) → i ≤ n → m ≡ n → i + (m - i) ≡ n
-    whole i m n h e = omega arith
+pub rows-end-in : (ns n nz first lo count last e : ℕ) → Pair ns n nz first lo count last
+    → e ≡ max (max first last + 1) (lo + count) → e * n ≤ ns
+rows-end-in ns n nz first lo count last e p ee =
+    ⊎-elim (λ h. is (lo + count) (omega (arith, ee, h)) (p .common))
+    (λ h. ⊎-elim (λ k. is (last + 1) (omega (arith, ee, h, k)) (omega (arith, p .other)))
+    (λ k. is (first + 1) (omega (arith, ee, h, k)) (omega (arith, p .one))) (below-or-not first last))
+    (below-or-not (max first last + 1) (lo + count))
+  where
+    is : (a : ℕ) → e ≡ a → a * n ≤ ns → e * n ≤ ns
+    is a h k = subst (λ b. b * n ≤ ns) (sym h) k
+
+-- ---- a row of no byte
+pub no-row : (F : ℕ → ℕ) (n : ℕ) (t : List ℕ) → length t ≡ n → n ≡ 0 → t ≡ firsts F n
+no-row F n t en none = list-is F n t en (λ i h. absurd (omega (arith, h, none)))
+
+-- a row that is shorter than a block: what is its own, by way of a room
+pub short-row : (F : ℕ → ℕ) (n m : ℕ) (r a d u : List ℕ) → length r ≡ 64 → m ≡ n → n ≤ 64 → d ≡ firsts F 64
+    → a ≡ laid 0 64 (λ i. getD d i 0) r → u ≡ firsts (λ i. getD a i 0) m → u ≡ firsts F n
+short-row F n m r a d u er em few ed ea eu =
+    eu ∙ ap (firsts (λ i. getD a i 0)) em ∙ firsts-same _ _ n (λ i h. ap (λ l. getD l i 0) ea
+    ∙ get-first 64 (λ i. getD d i 0) r i (omega (arith, er)) (omega arith)
+    ∙ ap (λ l. getD l i 0) ed ∙ getD-firsts F 64 i (omega arith))

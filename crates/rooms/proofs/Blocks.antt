@@ -1,14 +1,14 @@
 -- Blocks of windows made from another room, and of a row joined with what stands at all places.
 use Prim.Native.Nat.{ℕ, _+_, _-_, _*_, _≤_, _<_}
-use mathlib.Core.Path.{_≡_, refl, sym, ap, ap₂, _∙_, subst}
-use mathlib.Core.Bool.{Bool, false}
+use mathlib.Core.Path.{_≡_, refl, sym, ap, ap₂, _∙_}
+use mathlib.Core.Bool.{Bool, true, false}
 use mathlib.Core.List.{List}
 use mathlib.Core.Logic.{⊎-elim}
 use native.Mathlib.Omega.{arith}
 use native.Mathlib.Numerals.{add-one}
 use lib.ListN.{length, getD}
 use Rattle.basics.specs.Lists.{firsts}
-use Rattle.basics.proofs.Lists.{length-firsts, getD-firsts, firsts-same, list-is}
+use Rattle.basics.proofs.Lists.{length-firsts, firsts-same, list-is}
 use Rattle.morphology.specs.Operations.{fold}
 use Rattle.rows.specs.Steps.Fold.{joinBy}
 use Rattle.blocks.specs.Steps.Laid.{laid}
@@ -16,7 +16,7 @@ use Rattle.blocks.specs.Steps.Block.{blockOf}
 use Rattle.blocks.proofs.Laid.{laid-none, laid-next, get-before, get-after}
 use Rattle.joins.specs.Steps.Joins.{joinedAt}
 use Rattle.rooms.specs.Steps.Joined.{fourAt, widenedTo, atPlaces, Apart}
-use Rattle.rooms.proofs.Row.{got, block-got}
+use Rattle.rooms.proofs.Row.{got, block-got, fold-again}
 
 swap : (i d j : ℕ) → i + d + j ≡ i + j + d
 swap i d j = omega arith
@@ -108,3 +108,20 @@ module _ (grows : Bool) (c b : List ℕ) (i : ℕ) (at : List ℕ) where
 -- what becomes of the value v at m
 abbrev pub atAll : Bool → List ℕ → List ℕ → ℕ → ℕ → ℕ
 atAll grows b at v m = atPlaces grows v b m at (length at)
+
+-- again it is the same: values are joined in any order, and twice is once
+pub join-swapped : (grows : Bool) (x y z : ℕ) → joinBy grows (joinBy grows x y) z
+    ≡ joinBy grows (joinBy grows x z) y
+join-swapped true x y z = omega arith
+join-swapped false x y z = omega arith
+
+pub join-twice : (grows : Bool) (x y : ℕ) → joinBy grows (joinBy grows x y) y ≡ joinBy grows x y
+join-twice true x y = omega arith
+join-twice false x y = omega arith
+
+pub all-again : (grows : Bool) (b at : List ℕ) (v m : ℕ) → atAll grows b at (atAll grows b at v m) m
+    ≡ atAll grows b at v m
+unfolding atPlaces
+all-again grows b at v m =
+    fold-again (joinBy grows) (join-swapped grows) (join-twice grows) (λ j. getD b (m + getD at j 0) 0) v
+    (length at)

@@ -1,12 +1,10 @@
 -- Invariant: the byte is joined of the first v rows. What falls: the rows left.
 -- Each row lies in the source, whose bytes are at least as many as the rows.
-use Rattle.columns.proofs.Rows.{row-in, few-rows, down-none, down-more}
+use Rattle.columns.proofs.Rows.{row-in, down-none, down-more}
 use Rattle.columns.specs.Steps.Down.{downAt}
-use Rattle.basics.specs.Lists.{firsts}
-use Rattle.basics.proofs.Lists.{length-firsts}
-use lib.ListN.{length, getD, replicate}
+use lib.ListN.{length}
 use Prim.Native.Nat.{_+_, _-_, _*_, _≤_}
-use mathlib.Core.Path.{_≡_, refl, sym, ap, _∙_}
+use mathlib.Core.Path.{_≡_, ap, _∙_}
 use native.Mathlib.Omega.{arith}
 use borrow.Author.Needs.{needs}
 use Rattle.columns.proofs.byte_down.Statement.{statement}
@@ -24,13 +22,12 @@ entry c = c .before .before .before .before
 
 room : (c : tie.In-loop Inv-loop μ-loop)
     → ((entry c .args .lo + c .before .loop .v) * entry c .args .n + entry c .args .n
-    ≤ length (entry c .args .s .now)) × (entry c .args .lo + entry c .args .count ≤ length (entry c .args
+    ≤ length (entry c .args .s .now)) × (entry c .args .lo + c .before .loop .v ≤ length (entry c .args
     .s .now))
 room c =
-    let a = entry c .args in (
-      row-in (a .lo) (c .before .loop .v) (a .count) (a .n) _ (c .loop-test .taken) (entry c .pre .0),
-      few-rows (a .lo) (a .count) (a .n) _ (omega (arith, entry c .pre .1)) (entry c .pre .0),
-    )
+    let a = entry c .args in
+    row-in (a .lo) (c .before .loop .v) (a .count) (a .n) (a .n) _ (c .loop-test .taken)
+    (omega (arith, entry c .pre .0)) (omega (arith, entry c .pre .1))
 
 loop-holds : tie.Need-loop-holds Inv-loop μ-loop
 loop-holds c = let a = c .before .before .args in (

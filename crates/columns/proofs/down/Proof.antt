@@ -1,12 +1,12 @@
 -- Invariant: the block is joined of the first v rows. What falls: the rows left.
 -- Each row lies in the source, whose bytes are at least as many as the rows.
-use Rattle.columns.proofs.Rows.{row-in, few-rows, block-none, block-more}
+use Rattle.columns.proofs.Rows.{row-in, block-none, block-more}
 use Rattle.columns.specs.Steps.Down.{downAt}
 use Rattle.basics.specs.Lists.{firsts}
 use Rattle.basics.proofs.Lists.{length-firsts}
-use lib.ListN.{length, getD, replicate}
+use lib.ListN.{length}
 use Prim.Native.Nat.{_+_, _-_, _*_, _≤_}
-use mathlib.Core.Path.{_≡_, refl, sym, ap, _∙_}
+use mathlib.Core.Path.{_≡_, refl, ap, _∙_}
 use native.Mathlib.Omega.{arith}
 use borrow.Author.Needs.{needs}
 use Rattle.columns.proofs.down.Statement.{statement}
@@ -24,14 +24,13 @@ abbrev entry : tie.In-loop Inv-loop μ-loop → tie.Start Inv-loop μ-loop
 entry c = c .before .before .before .before
 
 room : (c : tie.In-loop Inv-loop μ-loop)
-    → ((entry c .args .lo + c .before .loop .v) * entry c .args .n + entry c .args .n
-    ≤ length (entry c .args .s .now)) × (entry c .args .lo + entry c .args .count ≤ length (entry c .args
+    → ((entry c .args .lo + c .before .loop .v) * entry c .args .n + (entry c .args .i + 64)
+    ≤ length (entry c .args .s .now)) × (entry c .args .lo + c .before .loop .v ≤ length (entry c .args
     .s .now))
 room c =
-    let a = entry c .args in (
-      row-in (a .lo) (c .before .loop .v) (a .count) (a .n) _ (c .loop-test .taken) (entry c .pre .0),
-      few-rows (a .lo) (a .count) (a .n) _ (omega (arith, entry c .pre .1)) (entry c .pre .0),
-    )
+    let a = entry c .args in
+    row-in (a .lo) (c .before .loop .v) (a .count) (a .n) _ _ (c .loop-test .taken) (entry c .pre .0)
+    (entry c .pre .1)
 
 loop-holds : tie.Need-loop-holds Inv-loop μ-loop
 loop-holds c = let a = c .before .before .args in (
@@ -47,10 +46,10 @@ mul-join-block : tie.Need-mul-join-block Inv-loop μ-loop
 mul-join-block c = omega (arith, room c)
 
 add-join-block-2 : tie.Need-add-join-block-2 Inv-loop μ-loop
-add-join-block-2 c = omega (arith, room c, entry c .pre .1)
+add-join-block-2 c = omega (arith, room c)
 
 join-block-requires : tie.Need-join-block-requires Inv-loop μ-loop
-join-block-requires c κs = omega (arith, room c, entry c .pre .1)
+join-block-requires c κs = omega (arith, room c)
 
 loop-again : tie.Need-loop-again Inv-loop μ-loop
 loop-again c = let l = c .before .before .loop in

@@ -24,3 +24,9 @@ pub record Pair (ns n nz first lo count last : ℕ) : Type 0 where
   pub common : (lo + count) * n ≤ ns
   pub one : first * n + n ≤ ns
   pub other : last * n + n ≤ ns
+
+-- and m bytes from where each of them begins
+pub record Inside (ns n m first lo count last : ℕ) : Type 0 where
+  pub common : (lo + count) * n + m ≤ ns + n
+  pub one : first * n + m ≤ ns
+  pub other : last * n + m ≤ ns
