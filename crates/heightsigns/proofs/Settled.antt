@@ -2,19 +2,10 @@
 -- for each public function, of its contract itself, as the prover reads it.
 use Rattle.basics.specs.Settles.{Settles, SettlesBytes}
 use Rattle.basics.proofs.Settled.{settled}
-use Rattle.heightsigns.proofs.cells_of.Kinds as cells-of-kinds
-use Rattle.heightsigns.proofs.cells_of.Reads as cells-of
 use Rattle.heightsigns.proofs.cells_both.Kinds as cells-both-kinds
 use Rattle.heightsigns.proofs.cells_both.Reads as cells-both
 use Rattle.heightsigns.proofs.ends_of.Kinds as ends-of-kinds
 use Rattle.heightsigns.proofs.ends_of.Reads as ends-of
-
-pub cells-of-settled : Settles 2 cells-of-kinds.ps cells-of-kinds.r cells-of.Learnt
-cells-of-settled κs a x y s t p q = settled (p .0) (q .0)
-
-pub cells-of-numbers-settled : SettlesBytes 2 cells-of-kinds.ps cells-of-kinds.r cells-of.Learnt
-    (λ κs e. e .0 .now)
-cells-of-numbers-settled κs a x y s t p q = settled (p .1) (q .1)
 
 pub cells-both-settled : Settles 3 cells-both-kinds.ps cells-both-kinds.r cells-both.Learnt
 cells-both-settled κs a x y s t p q = λ i. record {

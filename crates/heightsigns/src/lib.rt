@@ -69,42 +69,14 @@ fn entry(place: usize, size: u8) -> u16
     256 * (place as u16) + (size as u16)
 }
 
-// The set cells of a row word whose heights, which stand from the place `first` on, are of one side;
-// it gives how many they are. Each number is stored, and counted only where its cell is taken.
-pub fn cells_of(
-    cells: &mut [u16],
-    grows: bool,
-    rises: bool,
-    word: RowWord,
-    wide: usize,
-    o: usize,
-    heights: &[u8],
-    first: usize,
-) -> usize
-    requires { ⌜ (o < mostCells) × ((wide ≤ mostCells) × (first ≤ mostCells * mostCells)) ⌝ }
-    requires { ⌜ length (now cells) ≡ mostCells ⌝ }
-    ensures count { λ r. ⌜ r ≡ countOf rises word (now (heights .entry)) first wide ⌝ }
-    ensures numbers { λ _. ⌜ now (cells .exit)
-        ≡ cellsOf grows rises word o (now (heights .entry)) first (now (cells .entry)) wide ⌝ }
-{
-    let mut n = 0;
-    let mut c = 0;
-    while c < wide {
-        let g = height_at(heights, first + c);
-        cells[n] = entry(packedline::cell_place(grows, o, c), size_of(g));
-        n += takes(word, Ping(c as u16), rises, g);
-        c += 1;
-    }
-    n
-}
-
 // How many cells of a row raise, and how many do not.
 pub struct Counts {
     pub rising: usize,
     pub others: usize,
 }
 
-// Both sides at once, each into its own list: a cell's number is stored in both, and counted in one.
+// The set cells of a row word, whose heights stand from the place `first` on, each side into its own list;
+// it gives how many they are. A cell's number is stored in both lists, and counted in one where it is taken.
 pub fn cells_both(
     rising: &mut [u16],
     others: &mut [u16],
