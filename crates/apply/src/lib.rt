@@ -31,7 +31,7 @@ pub fn flat_bits(
         ≡ written OneBit (flatOf grows OneBit (now (s .entry)) w h o (now (words .entry)))
         w h (now (t .entry)) ⌝ }
 {
-    bitways::sweep(grows, &s[..], t, w, h, o, &words[..]);
+    bitways::sweep(plan::plan_of(grows, o), &s[..], t, w, h, &words[..]);
 }
 
 // The same of an 8-bit picture.
@@ -103,8 +103,8 @@ pub fn bits_twice(
         ≡ written OneBit (flatOf grows OneBit (now (s .entry)) w h o (now (words .entry)))
         w h (now (scratch .entry)) ⌝ }
 {
-    flat_bits(grows, s, scratch, w, h, o, words);
-    flat_bits(!grows, &scratch[..], t, w, h, o, words);
+    bitways::sweep(plan::plan_of(grows, o), &s[..], scratch, w, h, &words[..]);
+    bitways::sweep(plan::plan_of(!grows, o), &scratch[..], t, w, h, &words[..]);
 }
 
 // The same of an 8-bit picture.

@@ -127,9 +127,9 @@ fn join_short(grows: bool, t: &mut [u8], b: &[u8], at: &[u16])
         ≡ joinedRow grows (now (b .entry)) (now (at .entry)) (now (t .entry)) ⌝ }
 {
     let n = t.len();
-    let c = rooms::some_at(t, 0, n);
-    let e = join_places(grows, c, b, 0, at);
-    rooms::put_some(t, 0, n, e);
+    let mut a = rooms::some_at(t, 0, n);
+    join_blocks(grows, &mut a, b, at);
+    rooms::put_some(t, 0, n, a);
 }
 
 // What stands in b at all places, joined into the packed row t.

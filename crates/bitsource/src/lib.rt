@@ -12,6 +12,7 @@ ghost use Rattle.picture.specs.Frame.{mostPings, Holds, frame, rowBytes};
 ghost use Rattle.picture.specs.Points.{valueAt};
 ghost use Rattle.picture.specs.Bytes.{written, bytesOf};
 ghost use Rattle.element.specs.Record.{shapeBy};
+ghost use Rattle.plan.specs.Steps.Plan.{outlineBy, growsBy};
 ghost use Rattle.morphology.specs.Operations.{flat};
 ghost use Rattle.rows.specs.Steps.Ready.{Ready};
 ghost use Rattle.rows.specs.Steps.Ways.{sweptBy};
@@ -28,6 +29,9 @@ const ROOM: usize = 154;
 const ROOMS: usize = 308;
 
 const CELLS: usize = packedline::CELLS;
+
+// The kinds of an element's rows: single cells, and runs.
+const KINDS: usize = 2;
 
 // ---- the rooms
 
@@ -202,6 +206,30 @@ fn pass(
     }
 }
 
+// The rows of the element of one kind after the other. In a loop, so that `pass` has one call: what it holds
+// stands in its caller's frame, not in one below it.
+fn pass_kinds(
+    grows: bool,
+    t: &mut [u8],
+    w: usize,
+    h: usize,
+    o: Outline,
+    words: &[RowWord],
+    s: &[u8],
+)
+    requires { ⌜ Ready Depth.OneBit (length (now s)) (length (now words)) w h o ⌝ }
+    requires { ⌜ length (now t) ≡ h * rowBytes Depth.OneBit w ⌝ }
+    requires { ⌜ PartOf Depth.OneBit grows (now s) w h o (now words) 0 0 0 (now t) ⌝ }
+    ensures { λ _. ⌜ PartOf Depth.OneBit grows (now (s .entry)) w h o (now (words .entry)) 2 0 0
+        (now (t .exit)) ⌝ }
+{
+    let mut k = 0;
+    while k < KINDS {
+        pass(grows, t, w, h, o, &words[..], k, &s[..]);
+        k += 1;
+    }
+}
+
 // The whole picture into a target of just its size.
 fn sweep_whole(
     grows: bool,
@@ -220,8 +248,7 @@ fn sweep_whole(
         (valueAt Depth.OneBit (now (s .entry)) w)) w h ⌝ }
 {
     rows::begin(grows, 255, t);
-    pass(grows, t, w, h, o, &words[..], 0, &s[..]);
-    pass(grows, t, w, h, o, &words[..], 1, &s[..]);
+    pass_kinds(grows, t, w, h, o, &words[..], &s[..]);
     copies::clear_padding(Depth::OneBit, t, w, h);
 }
 
@@ -237,4 +264,18 @@ pub fn sweep(grows: bool, s: &[u8], t: &mut [u8], w: usize, h: usize, o: Outline
 {
     let n = h * ((w + 7) / 8);
     sweep_whole(grows, &s[..], &mut t[..n], w, h, o, &words[..]);
+}
+
+// The same, the operation and the outline in a plan.
+pub fn sweep_by_plan(plan: usize, s: &[u8], t: &mut [u8], w: usize, h: usize, words: &[RowWord])
+    requires { ⌜ Ready Depth.OneBit (length (now s)) (length (now words)) w h (outlineBy plan) ⌝ }
+    requires { ⌜ Holds Depth.OneBit (length (now t)) w h ⌝ }
+    ensures { λ _. ⌜ now (t .exit)
+        ≡ written Depth.OneBit
+        (sweptBy (growsBy plan) flat 1 (frame w h) (shapeBy (outlineBy plan) (now (words .entry)))
+        (valueAt Depth.OneBit (now (s .entry)) w)) w h (now (t .entry)) ⌝ }
+{
+    let o = plan::outline_of(plan);
+    let grows = plan::grows_of(plan);
+    sweep(grows, &s[..], t, w, h, o, &words[..]);
 }

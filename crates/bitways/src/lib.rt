@@ -2,7 +2,6 @@
 // row. Which one is a matter of time alone: the promise is the same.
 // Here and below, a slice is handed on as `&s[..]`: handed on as it came it would be copied in each frame.
 use bitrow::Task;
-use element::Outline;
 use element::RowWord;
 use picture::Bin;
 use picture::Depth;
@@ -17,7 +16,7 @@ ghost use Rattle.element.specs.Record.{shapeBy};
 ghost use Rattle.morphology.specs.Operations.{flat};
 ghost use Rattle.rows.specs.Steps.Ready.{Ready};
 ghost use Rattle.rows.specs.Steps.Ways.{sweptBy};
-ghost use Rattle.bitrow.specs.Steps.Row.{sweptBits};
+ghost use Rattle.plan.specs.Steps.Plan.{outlineBy, growsBy};
 
 // From so many cells on, and so many for each row of the element, a one-bit picture goes by source rows.
 const MANY: usize = 64;
@@ -25,14 +24,18 @@ const MANY: usize = 64;
 const MANY_IN_A_ROW: usize = 4;
 
 // The whole one-bit picture, row by row; what lies past it in t stays.
-fn sweep_bits(k: Task, s: &[u8], t: &mut [u8], w: usize, h: usize, o: Outline, words: &[RowWord])
-    requires { ⌜ Ready Depth.OneBit (length (now s)) (length (now words)) w h o ⌝ }
+fn sweep_bits(plan: usize, s: &[u8], t: &mut [u8], w: usize, h: usize, words: &[RowWord])
+    requires { ⌜ Ready Depth.OneBit (length (now s)) (length (now words)) w h (outlineBy plan) ⌝ }
     requires { ⌜ Holds Depth.OneBit (length (now t)) w h ⌝ }
     ensures { λ _. ⌜
         now (t .exit)
-        ≡ written Depth.OneBit (sweptBits k (now (s .entry)) w h o (now (words .entry)))
-        w h (now (t .entry)) ⌝ }
+        ≡ written Depth.OneBit
+        (sweptBy (growsBy plan) flat 1 (frame w h) (shapeBy (outlineBy plan) (now (words .entry)))
+        (valueAt Depth.OneBit (now (s .entry)) w)) w h (now (t .entry)) ⌝ }
 {
+    let o = plan::outline_of(plan);
+    let grows = plan::grows_of(plan);
+    let k = Task { over: false, grows };
     let n = picture::row_bytes(Depth::OneBit, w);
     let mut y = 0;
     while y < h {
@@ -69,51 +72,70 @@ fn is_dense(words: &[RowWord], h: usize) -> bool
     MANY_IN_A_ROW * h < n
 }
 
-// A one-bit picture by a flat element, of rows too long for words: a rectangle goes its own way, but for one
-// row alone, which is sooner made row by row.
-fn wide_bits(grows: bool, s: &[u8], t: &mut [u8], w: usize, h: usize, o: Outline, words: &[RowWord])
-    requires { ⌜ Ready Depth.OneBit (length (now s)) (length (now words)) w h o ⌝ }
+// By source rows where that pays, else row by row.
+// A call for each way: a function with one call is taken into its caller, and its room with it.
+fn any_bits(plan: usize, s: &[u8], t: &mut [u8], w: usize, h: usize, words: &[RowWord])
+    requires { ⌜ Ready Depth.OneBit (length (now s)) (length (now words)) w h (outlineBy plan) ⌝ }
     requires { ⌜ Holds Depth.OneBit (length (now t)) w h ⌝ }
     ensures { λ _. ⌜
         now (t .exit)
         ≡ written Depth.OneBit
-        (sweptBy grows flat 1 (frame w h) (shapeBy o (now (words .entry)))
+        (sweptBy (growsBy plan) flat 1 (frame w h) (shapeBy (outlineBy plan) (now (words .entry)))
         (valueAt Depth.OneBit (now (s .entry)) w)) w h (now (t .entry)) ⌝ }
 {
+    let o = plan::outline_of(plan);
+    if is_dense(&words[..], o.h) {
+        if plan::grows_of(plan) {
+            bitsource::sweep_by_plan(plan::plan_of(true, o), &s[..], t, w, h, &words[..]);
+            return;
+        }
+        bitsource::sweep_by_plan(plan::plan_of(false, o), &s[..], t, w, h, &words[..]);
+        return;
+    }
+    sweep_bits(plan, &s[..], t, w, h, &words[..]);
+}
+
+// A one-bit picture by a flat element, of rows too long for words: a rectangle goes its own way, but for one
+// row alone, which is sooner made row by row. Each way is the last call, and is handed nothing of this frame,
+// so that this frame is gone before it.
+fn wide_bits(plan: usize, s: &[u8], t: &mut [u8], w: usize, h: usize, words: &[RowWord])
+    requires { ⌜ Ready Depth.OneBit (length (now s)) (length (now words)) w h (outlineBy plan) ⌝ }
+    requires { ⌜ Holds Depth.OneBit (length (now t)) w h ⌝ }
+    ensures { λ _. ⌜
+        now (t .exit)
+        ≡ written Depth.OneBit
+        (sweptBy (growsBy plan) flat 1 (frame w h) (shapeBy (outlineBy plan) (now (words .entry)))
+        (valueAt Depth.OneBit (now (s .entry)) w)) w h (now (t .entry)) ⌝ }
+{
+    let o = plan::outline_of(plan);
     if 1 < o.h {
         if boxes::is_box(&words[..], o) {
-            // a call for each way: a function with one call is taken into its caller, and its room with it
-            if grows {
-                rectangle::bits(true, &s[..], t, w, h, o);
+            // a call for each way, as above
+            if plan::grows_of(plan) {
+                rectangle::bits_by_plan(true, &s[..], t, w, h, plan);
                 return;
             }
-            rectangle::bits(false, &s[..], t, w, h, o);
+            rectangle::bits_by_plan(false, &s[..], t, w, h, plan);
             return;
         }
     }
-    if is_dense(&words[..], o.h) {
-        bitsource::sweep(grows, &s[..], t, w, h, o, &words[..]);
-        return;
-    }
-    let k = Task { over: false, grows };
-    sweep_bits(k, &s[..], t, w, h, o, &words[..]);
+    any_bits(plan, &s[..], t, w, h, &words[..]);
 }
 
 // The erosion, or the dilation, of the one-bit picture in s by a flat element;
 // what lies past the picture in t stays.
-pub fn sweep(grows: bool, s: &[u8], t: &mut [u8], w: usize, h: usize, o: Outline, words: &[RowWord])
-    requires { ⌜ Ready Depth.OneBit (length (now s)) (length (now words)) w h o ⌝ }
+pub fn sweep(plan: usize, s: &[u8], t: &mut [u8], w: usize, h: usize, words: &[RowWord])
+    requires { ⌜ Ready Depth.OneBit (length (now s)) (length (now words)) w h (outlineBy plan) ⌝ }
     requires { ⌜ Holds Depth.OneBit (length (now t)) w h ⌝ }
     ensures { λ _. ⌜
         now (t .exit)
         ≡ written Depth.OneBit
-        (sweptBy grows flat 1 (frame w h) (shapeBy o (now (words .entry)))
+        (sweptBy (growsBy plan) flat 1 (frame w h) (shapeBy (outlineBy plan) (now (words .entry)))
         (valueAt Depth.OneBit (now (s .entry)) w)) w h (now (t .entry)) ⌝ }
 {
     if w <= narrow::MOST {
-        let k = Task { over: false, grows };
-        sweep_bits(k, &s[..], t, w, h, o, &words[..]);
+        sweep_bits(plan, &s[..], t, w, h, &words[..]);
         return;
     }
-    wide_bits(grows, &s[..], t, w, h, o, &words[..]);
+    wide_bits(plan, &s[..], t, w, h, &words[..]);
 }

@@ -77,7 +77,7 @@ pub fn upper(
     boxseen::lead(
         packed,
         grows,
-        s,
+        &s[..],
         &mut b[side..e],
         &mut t[c..d],
         h,

@@ -38,10 +38,11 @@ pub fn lead(
     let lo = past(z, above);
     let end = basics::lesser(y + high - above, h);
     let last = basics::lesser(z + high - above - 1, h - 1);
+    let n = one.len();
     columns::pair(
         packed,
         grows,
-        s,
+        &s[..h * n],
         one,
         other,
         past(y, above),

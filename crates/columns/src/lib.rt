@@ -210,10 +210,10 @@ fn pair_any_short(
         return;
     }
     if 64 - n <= s.len() - rows_end(first, lo, count, last) * n {
-        pair_short(packed, grows, s, y, z, first, lo, count, last);
+        pair_short(packed, grows, &s[..], y, z, first, lo, count, last);
         return;
     }
-    pair_bytes(packed, grows, s, y, z, first, lo, count, last);
+    pair_bytes(packed, grows, &s[..], y, z, first, lo, count, last);
 }
 
 // In y the rows `first` and lo to lo + count - 1 of s, in z these and the row `last`, joined byte by byte.
@@ -237,13 +237,13 @@ pub fn pair(
         (length (now (y .entry))) ⌝ }
 {
     if 64 <= y.len() {
-        pair_blocks(packed, grows, s, y, z, first, lo, count, last);
+        pair_blocks(packed, grows, &s[..], y, z, first, lo, count, last);
         return;
     }
     // a call for each way: a function with one call is taken into its caller, and its room with it
     if grows {
-        pair_any_short(packed, true, s, y, z, first, lo, count, last);
+        pair_any_short(packed, true, &s[..], y, z, first, lo, count, last);
         return;
     }
-    pair_any_short(packed, false, s, y, z, first, lo, count, last);
+    pair_any_short(packed, false, &s[..], y, z, first, lo, count, last);
 }

@@ -16,6 +16,7 @@ use Rattle.picture.proofs.Bytes.{bytes-long}
 use Rattle.picture.proofs.Points.{written-same}
 use Rattle.picture.proofs.Shown.{written-shown}
 use Rattle.element.specs.declared.Element.{Element}
+use Rattle.element.specs.declared.Outline.{Outline}
 use Rattle.element.specs.Shape.{Shape}
 use Rattle.element.specs.Descriptor.{cellsMade, shapeIn}
 use Rattle.element.specs.Record.{elementOf, shapeOf}
@@ -28,6 +29,11 @@ use Rattle.flat.specs.Flat.{flatAnswer, flatLeft}
 use Rattle.differences.specs.declared.Which.{Which}
 use Rattle.differences.specs.declared.Which.the-variants.{White, Black, Gradient}
 use Rattle.differences.specs.Steps.Which.{madeBy, middleBy}
+
+-- the record that its outline and its row words make up is the descriptor's
+pub read : (d rows : List ℕ) (o : Outline) → o ≡ elementOf d .outline → rows ≡ elementOf d .rows
+    → _≡_ {A = Element} (record { outline = o; rows = rows }) (elementOf d)
+read d rows o eo er = λ i. record { outline = eo i; rows = er i }
 
 -- a picture written over one that was written
 written-over : (depth : Depth) (A C : Picture) (w h : ℕ) (t : List ℕ)

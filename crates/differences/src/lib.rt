@@ -57,16 +57,16 @@ fn make_bits(
 {
     match which {
         Which::White => {
-            apply::bits_twice(false, source, target, scratch, w, h, o, words);
-            less::subtract(Depth::OneBit, From::Other, w, h, source, target);
+            apply::bits_twice(false, &source[..], target, scratch, w, h, o, words);
+            less::subtract(Depth::OneBit, From::Other, w, h, &source[..], target);
         }
         Which::Black => {
-            apply::bits_twice(true, source, target, scratch, w, h, o, words);
-            less::subtract(Depth::OneBit, From::Target, w, h, source, target);
+            apply::bits_twice(true, &source[..], target, scratch, w, h, o, words);
+            less::subtract(Depth::OneBit, From::Target, w, h, &source[..], target);
         }
         Which::Gradient => {
-            apply::flat_bits(false, source, scratch, w, h, o, words);
-            apply::flat_bits(true, source, target, w, h, o, words);
+            apply::flat_bits(false, &source[..], scratch, w, h, o, words);
+            apply::flat_bits(true, &source[..], target, w, h, o, words);
             less::subtract(Depth::OneBit, From::Target, w, h, &scratch[..], target);
         }
     }
@@ -101,16 +101,16 @@ fn make_bytes(
 {
     match which {
         Which::White => {
-            apply::bytes_twice(false, source, target, scratch, w, h, o, words);
-            less::subtract(Depth::EightBit, From::Other, w, h, source, target);
+            apply::bytes_twice(false, &source[..], target, scratch, w, h, o, words);
+            less::subtract(Depth::EightBit, From::Other, w, h, &source[..], target);
         }
         Which::Black => {
-            apply::bytes_twice(true, source, target, scratch, w, h, o, words);
-            less::subtract(Depth::EightBit, From::Target, w, h, source, target);
+            apply::bytes_twice(true, &source[..], target, scratch, w, h, o, words);
+            less::subtract(Depth::EightBit, From::Target, w, h, &source[..], target);
         }
         Which::Gradient => {
-            apply::flat_bytes(false, source, scratch, w, h, o, words);
-            apply::flat_bytes(true, source, target, w, h, o, words);
+            apply::flat_bytes(false, &source[..], scratch, w, h, o, words);
+            apply::flat_bytes(true, &source[..], target, w, h, o, words);
             less::subtract(Depth::EightBit, From::Target, w, h, &scratch[..], target);
         }
     }
@@ -140,12 +140,12 @@ fn run_bits(
         (min (length (now (target .entry))) (length (now (scratch .entry)))) (now (scratch .entry)) ⌝ }
 {
     let room = basics::lesser(target.len(), scratch.len());
-    let made = descriptor::well_made(element);
-    let no = judge::element_refusal(Depth::OneBit, w, h, source, made, room);
+    let made = descriptor::well_made(&element[..]);
+    let no = judge::element_refusal(Depth::OneBit, w, h, &source[..], made, room);
     if answer::is_done(no) {
-        let e = reader::element_at(element);
-        let o = e.outline;
-        make_bits(which, w, h, source, o, &e.rows, target, scratch);
+        let o = reader::outline_at(&element[..]);
+        let words = reader::rows_at(&element[..]);
+        make_bits(which, w, h, &source[..], o, &words, target, scratch);
         return no;
     }
     no
@@ -175,12 +175,12 @@ fn run_bytes(
         (min (length (now (target .entry))) (length (now (scratch .entry)))) (now (scratch .entry)) ⌝ }
 {
     let room = basics::lesser(target.len(), scratch.len());
-    let made = descriptor::well_made(element);
-    let no = judge::element_refusal(Depth::EightBit, w, h, source, made, room);
+    let made = descriptor::well_made(&element[..]);
+    let no = judge::element_refusal(Depth::EightBit, w, h, &source[..], made, room);
     if answer::is_done(no) {
-        let e = reader::element_at(element);
-        let o = e.outline;
-        make_bytes(which, w, h, source, o, &e.rows, target, scratch);
+        let o = reader::outline_at(&element[..]);
+        let words = reader::rows_at(&element[..]);
+        make_bytes(which, w, h, &source[..], o, &words, target, scratch);
         return no;
     }
     no

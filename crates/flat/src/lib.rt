@@ -33,13 +33,13 @@ fn run_bits(
         ≡ flatLeft OneBit (onceBy (growsOf way) OneBit) w h (now (source .entry)) (now (element .entry))
         (length (now (target .entry))) (now (target .entry)) ⌝ }
 {
-    let made = descriptor::well_made(element);
-    let no = judge::element_refusal(Depth::OneBit, w, h, source, made, target.len());
+    let made = descriptor::well_made(&element[..]);
+    let no = judge::element_refusal(Depth::OneBit, w, h, &source[..], made, target.len());
     if answer::is_done(no) {
-        let e = reader::element_at(element);
+        let e = reader::element_at(&element[..]);
         let grows = rows::is_growing(way);
         let o = e.outline;
-        apply::flat_bits(grows, source, target, w, h, o, &e.rows);
+        apply::flat_bits(grows, &source[..], target, w, h, o, &e.rows);
         return no;
     }
     no
@@ -63,13 +63,13 @@ fn run_bytes(
         ≡ flatLeft EightBit (onceBy (growsOf way) EightBit) w h (now (source .entry)) (now (element .entry))
         (length (now (target .entry))) (now (target .entry)) ⌝ }
 {
-    let made = descriptor::well_made(element);
-    let no = judge::element_refusal(Depth::EightBit, w, h, source, made, target.len());
+    let made = descriptor::well_made(&element[..]);
+    let no = judge::element_refusal(Depth::EightBit, w, h, &source[..], made, target.len());
     if answer::is_done(no) {
-        let e = reader::element_at(element);
+        let e = reader::element_at(&element[..]);
         let grows = rows::is_growing(way);
         let o = e.outline;
-        apply::flat_bytes(grows, source, target, w, h, o, &e.rows);
+        apply::flat_bytes(grows, &source[..], target, w, h, o, &e.rows);
         return no;
     }
     no
@@ -100,13 +100,13 @@ fn twice_bits(
         (min (length (now (target .entry))) (length (now (scratch .entry)))) (now (scratch .entry)) ⌝ }
 {
     let room = basics::lesser(target.len(), scratch.len());
-    let made = descriptor::well_made(element);
-    let no = judge::element_refusal(Depth::OneBit, w, h, source, made, room);
+    let made = descriptor::well_made(&element[..]);
+    let no = judge::element_refusal(Depth::OneBit, w, h, &source[..], made, room);
     if answer::is_done(no) {
-        let e = reader::element_at(element);
+        let e = reader::element_at(&element[..]);
         let grows = rows::is_growing(first);
         let o = e.outline;
-        apply::bits_twice(grows, source, target, scratch, w, h, o, &e.rows);
+        apply::bits_twice(grows, &source[..], target, scratch, w, h, o, &e.rows);
         return no;
     }
     no
@@ -137,13 +137,13 @@ fn twice_bytes(
         (min (length (now (target .entry))) (length (now (scratch .entry)))) (now (scratch .entry)) ⌝ }
 {
     let room = basics::lesser(target.len(), scratch.len());
-    let made = descriptor::well_made(element);
-    let no = judge::element_refusal(Depth::EightBit, w, h, source, made, room);
+    let made = descriptor::well_made(&element[..]);
+    let no = judge::element_refusal(Depth::EightBit, w, h, &source[..], made, room);
     if answer::is_done(no) {
-        let e = reader::element_at(element);
+        let e = reader::element_at(&element[..]);
         let grows = rows::is_growing(first);
         let o = e.outline;
-        apply::bytes_twice(grows, source, target, scratch, w, h, o, &e.rows);
+        apply::bytes_twice(grows, &source[..], target, scratch, w, h, o, &e.rows);
         return no;
     }
     no

@@ -283,8 +283,8 @@ pub fn any_row(
     ensures { λ _. ⌜ now (t .exit) ≡ bitRow k (now (s .entry)) w h o (now (words .entry)) (y .0) ⌝ }
 {
     if w <= MOST {
-        make_row(k, t, s, w, h, y, o, words);
+        make_row(k, t, &s[..], w, h, y, o, &words[..]);
         return;
     }
-    bitrow::make_row(k, t, s, w, h, y, o, words);
+    bitrow::make_row(k, t, &s[..], w, h, y, o, &words[..]);
 }

@@ -69,16 +69,34 @@ fn words_of(d: &[u8], n: usize, h: usize) -> [RowWord; MOST_CELLS]
     rows
 }
 
+// The size and origin of an element whose cells are well made.
+pub fn outline_at(d: &[u8]) -> Outline
+    requires { ⌜ cellsMade (now d) ≡ true ⌝ }
+    ensures { λ r. ⌜ r ≡ elementOf (now (d .entry)) .outline ⌝ }
+{
+    let w = size(d[0]);
+    let h = size(d[1]);
+    let origin = element::origin_of(&d[..]);
+    Outline { w, h, origin }
+}
+
+// Its row words.
+pub fn rows_at(d: &[u8]) -> [RowWord; MOST_CELLS]
+    requires { ⌜ cellsMade (now d) ≡ true ⌝ }
+    ensures { λ r. ⌜ r ≡ elementOf (now (d .entry)) .rows ⌝ }
+{
+    let w = size(d[0]);
+    let h = size(d[1]);
+    words_of(&d[..], picture::row_bytes(Depth::OneBit, w), h)
+}
+
 // The element of bytes whose cells are well made.
 pub fn element_at(d: &[u8]) -> Element
     requires { ⌜ cellsMade (now d) ≡ true ⌝ }
     ensures { λ r. ⌜ r ≡ elementOf (now (d .entry)) ⌝ }
 {
-    let w = size(d[0]);
-    let h = size(d[1]);
-    let rows = words_of(d, picture::row_bytes(Depth::OneBit, w), h);
-    let origin = element::origin_of(d);
-    let outline = Outline { w, h, origin };
+    let outline = outline_at(&d[..]);
+    let rows = rows_at(&d[..]);
     Element { outline, rows }
 }
 

@@ -104,6 +104,32 @@ part-along-end c = let d = c .before .before .before .before .before .before .be
     (sym (same-len-mid (e .args .z * k) (e .args .z * k + k - e .args .z * k) (e .args .t .now)
     (l .last .1 .1 .1 .1 .0) (l .kept .1 .1 .1 .1 .0))) (room-y d)
 
+along-requires : tie.Need-along-requires
+along-requires c κs = let d = c .before .before .before .before .before .before .before .before
+    .before .before .before .before .before .before .before in
+    let e = c .before .before .before .before .before .before .before .before .before .before .before
+    .before .before .before .before .before .before .before .before .before .before .before .before in
+    let m = c .before .before .before .before .before .before .before .before .before .before .before
+    .before .before .margins in
+    let l = c .before .before .before .before .before .before .before .lead in
+    let k = d .before .bytes-of .result in
+    let z = e .args .z * k in
+    let other = putMid z (z + k - z) (e .args .t .now) (l .last .1 .1 .1 .1 .0) in
+    record {
+      some-points = e .pre .0 .some-pings;
+      few-points = e .pre .0 .few-pings;
+      room = same-len-mid (d .side-of .result) (d .side-of .result + k - d .side-of .result)
+          (m .last .1 .1 .0)
+          (l .last .1 .1 .1 .0) (l .kept .1 .1 .1 .0) ∙ m .kept .1 .1 .0 ∙ e .pre .0 .room;
+      target = part-length other (e .args .y * k) k
+          (subst (λ j. e .args .y * k + k ≤ j)
+          (sym (same-len-mid z (z + k - z) (e .args .t .now) (l .last .1 .1 .1 .1 .0)
+          (l .kept .1 .1 .1 .1 .0)))
+          (room-y d)) ∙ n d;
+      few-wide = e .pre .0 .few-wide;
+      origin-in = e .pre .0 .column;
+    }
+
 same-length : tie.Need-same-length
 same-length c = let a = c .before .before .before .before .before .before .before .before .before .before
     .before .before .before .before .before .before .before .before .before .before .before .before .before
@@ -196,7 +222,7 @@ upper-spec =
     (λ c. search needs)
     part-along-end
     (λ c. search needs)
-    (λ c κs. search needs)
+    along-requires
     same-length
     same-length-2
     returns)
