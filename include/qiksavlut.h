@@ -18,9 +18,9 @@
  *    1,560  qik_erode1 qik_dilate1 qik_open1 qik_close1 qik_white_tophat1 qik_black_tophat1 qik_gradient1
  *    4,096  qik_erode8 qik_dilate8 qik_open8 qik_close8 qik_white_tophat8 qik_black_tophat8 qik_gradient8
  *    2,688  qik_hit_or_miss
- *    3,904  qik_weighted_erode qik_weighted_dilate qik_weighted_open qik_weighted_close
- *    4,416  qik_check_chain
- *    4,736  qik_chain_erode1 qik_chain_dilate1 qik_chain_erode8 qik_chain_dilate8
+ *    3,968  qik_weighted_erode qik_weighted_dilate qik_weighted_open qik_weighted_close
+ *    4,864  qik_check_chain
+ *    5,056  qik_chain_erode1 qik_chain_dilate1 qik_chain_erode8 qik_chain_dilate8
  *    7,648  qik_find_chain
  *    1,088  qik_reconstruct_cross qik_reconstruct_square qik_size_spectrum
  *   82,480  qik_nesting

@@ -1,3 +1,5 @@
+pub mod Listed
+pub mod Marks
 pub mod Part
 pub mod Whole
 pub mod Settled

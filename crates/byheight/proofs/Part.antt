@@ -1,12 +1,12 @@
 -- The result while it is made: what has been joined so far, row after row.
 use Prim.Native.Nat.{ℕ, _+_, _-_, _*_, _≤_, _<_}
-use mathlib.Core.Path.{_≡_, refl, sym, ap, ap₂, _∙_, subst}
+use mathlib.Core.Path.{_≡_, sym, ap, _∙_, subst}
 use mathlib.Core.Bool.{Bool, true, false, not}
 use mathlib.Core.List.{List}
 use mathlib.Core.Logic.{_⊎_, inl, inr, ⊎-elim}
 use native.Mathlib.Omega.{arith}
 use native.Mathlib.Nat.{eq-or-lt-of-le, not-suc-le-zero, add-sub-cancel-left}
-use lib.Dec.{leb, ltb}
+use lib.Dec.{leb}
 use lib.ListN.{length, getD, take}
 use borrow.Author.Tests.{ltb-true}
 use borrow.Rule.Slice.PartMut.{midOf, putMid}
@@ -18,8 +18,7 @@ use Rattle.basics.proofs.SliceParts.{below-or-not, put-before, put-within, put-
 use Rattle.picture.proofs.Sizes.{row-room}
 use Rattle.element.specs.declared.Outline.{Outline}
 use Rattle.element.specs.Descriptor.{mostCells}
-use Rattle.element.specs.Record.{cellOn}
-use Rattle.morphology.specs.Operations.{moved, within}
+use Rattle.morphology.specs.Operations.{within}
 use Rattle.rows.specs.Steps.Ways.{weighBy}
 use Rattle.rows.specs.Steps.Fold.{startBy, plusBy, minusBy}
 use Rattle.rows.specs.Steps.Row.{sourceRow}
@@ -38,59 +37,106 @@ below-one : (i n : ℕ) → i < n + 1 → i ≤ n
 below-one i n h = omega arith
 
 -- ---- what is done, as it grows
-done-more : (v n q r : ℕ) → Done v n q r → Done v (n + 1) q r
-done-more v n q r d = ⊎-elim (λ l. inl l) (λ a. inr (a .0, omega (arith, a .1))) d
+module _ (from many v n q r : ℕ) where
+  done-more : Done from many v n q r → Done from many v (n + 1) q r
+  done-more d =
+      ⊎-elim (λ l. inl l)
+      (λ a. inr (a .0, ⊎-elim (λ l. inl l) (λ b. inr (b .0, omega (arith, b .1))) (a .1))) d
 
--- a row of the element more is that row, from source row v
-done-new : (v n q r : ℕ) → Done v (n + 1) q r → Done v n q r ⊎ ((q ≡ v) × (r ≡ n))
-done-new v n q r d =
-    ⊎-elim (λ l. inl (inl l))
-    (λ a. ⊎-elim (λ e. inr (a .0, e)) (λ l. inl (inr (a .0, l))) (eq-or-lt-of-le (below-one r n (a .1)))) d
+  -- a row of the element more is that row, from source row v
+  done-new : Done from many v (n + 1) q r → Done from many v n q r ⊎ ((q ≡ v) × (r ≡ n))
+  done-new d =
+      ⊎-elim (λ l. inl (inl l))
+      (λ a. ⊎-elim (λ l. inl (inr (a .0, inl l)))
+      (λ b. ⊎-elim (λ e. inr (b .0, e)) (λ l. inl (inr (a .0, inr (b .0, l))))
+      (eq-or-lt-of-le (below-one r n (b .1)))) (a .1)) d
 
--- after all rows of the element, the next source row
-done-source : (v n q r : ℕ) → Done v n q r → Done (v + 1) 0 q r
-done-source v n q r d = ⊎-elim (λ l. inl (omega arith)) (λ a. inl (omega (arith, a .0))) d
+  -- after all rows that are listed, the next source row
+  done-source : Done from many v n q r → Done from many (v + 1) from q r
+  done-source d =
+      ⊎-elim (λ l. inl l)
+      (λ a. inr (a .0, inl (⊎-elim (λ l. omega arith) (λ b. omega (arith, b .0)) (a .1)))) d
 
-done-source-back : (v n q r : ℕ) → r < n → Done (v + 1) 0 q r → Done v n q r
-done-source-back v n q r hr d =
-    ⊎-elim
-    (λ l. ⊎-elim (λ e. inr (e, hr)) (λ m. inl m) (eq-or-lt-of-le (below-one q v l)))
-    (λ a. absurd (not-suc-le-zero (a .1))) d
+  done-source-back : n ≡ from + many → Done from many (v + 1) from q r → Done from many v n q r
+  done-source-back e d =
+      ⊎-elim (λ l. inl l)
+      (λ a. ⊎-elim
+      (λ l. ⊎-elim (λ z. inr (a .0, inr (z, omega (arith, a .0, e)))) (λ k. inr (a .0, inl k))
+      (eq-or-lt-of-le (below-one q v l)))
+      (λ b. inl (b .1)) (a .1)) d
+
+-- before the first source row, and after the last
+done-none : (from many q r : ℕ) → Done from many 0 from q r → r < from
+done-none from many q r d =
+    ⊎-elim (λ l. l) (λ a. ⊎-elim (λ l. absurd (not-suc-le-zero l)) (λ b. b .1) (a .1)) d
+
+done-all : (from many v q r : ℕ) → Done from many v from q r → r < from + many
+done-all from many v q r d = ⊎-elim (λ l. omega arith) (λ a. a .0) d
 
 module _ (grows : Bool) (s : List ℕ) (w h : ℕ) (o : Outline) (words hs : List ℕ) where
-  abbrev Is : ℕ → ℕ → List ℕ → Type 0
-  Is v n t = Part grows s w h o words hs v n t
-
   -- ---- steps that join nothing
-  part-same : (v n v' n' : ℕ) (t : List ℕ)
+  part-same : (f m v n f' m' v' n' : ℕ) (t : List ℕ)
       → ((x y c r : ℕ) → y < h → Leads grows w h o words x y c r
-      → (Done v n (downTo grows o y r) r → Done v' n' (downTo grows o y r) r)
-      × (Done v' n' (downTo grows o y r) r → Done v n (downTo grows o y r) r))
-      → Is v n t → Is v' n' t
-  part-same v n v' n' t same p =
+      → (Done f m v n (downTo grows o y r) r → Done f' m' v' n' (downTo grows o y r) r)
+      × (Done f' m' v' n' (downTo grows o y r) r → Done f m v n (downTo grows o y r) r))
+      → Part grows s w h o words hs f m v n t → Part grows s w h o words hs f' m' v' n' t
+  part-same f m v n f' m' v' n' t same p =
       record {
         to = λ x y z hx hy hz b c r l d. p .to x y z hx hy hz b c r l (same x y c r hy l .1 d);
-        from = λ x y z hx hy hz each. p .from x y z hx hy hz
+        follows = λ x y z hx hy hz each. p .follows x y z hx hy hz
             (λ c r l d. each c r l (same x y c r hy l .0 d));
       }
 
-  pub part-start : (t : List ℕ) (n : ℕ) → n ≡ h * w → t ≡ firsts (λ x. startBy grows 255) n → Is 0 0 t
+  pub part-start : (t : List ℕ) (n : ℕ) → n ≡ h * w → t ≡ firsts (λ x. startBy grows 255) n
+      → Part grows s w h o words hs 0 0 0 0 t
   part-start t n e q =
       record {
-        to = λ x y z hx hy hz b c r l d. absurd (⊎-elim (λ l. not-suc-le-zero l)
-            (λ a. not-suc-le-zero (a .1)) d);
-        from = λ x y z hx hy hz each. subst (λ m. Bound grows m z)
+        to = λ x y z hx hy hz b c r l d. absurd (not-suc-le-zero (done-none 0 0 (downTo grows o y r) r d));
+        follows = λ x y z hx hy hz each. subst (λ m. Bound grows m z)
             (sym (ap (λ m. getD m (y * w + x) 0) q
             ∙ getD-firsts (λ x. startBy grows 255) n (y * w + x) (omega (arith, row-room w hy))))
             (byte-start grows z hz);
       }
 
-  pub part-source : (v n : ℕ) (t : List ℕ) → n ≡ o .h → Is v n t → Is (v + 1) 0 t
-  part-source v n t e p =
-      part-same v n (v + 1) 0 t
+  -- the next rows of the element, before the first source row
+  pub part-open : (from many : ℕ) (t : List ℕ) → Part grows s w h o words hs from 0 0 from t
+      → Part grows s w h o words hs from many 0 from t
+  part-open from many t p =
+      part-same from 0 0 from from many 0 from t
       (λ x y c r hy l. (
-        done-source v n (downTo grows o y r) r,
-        done-source-back v n (downTo grows o y r) r (omega (arith, l .row, e)),
+        λ d. inl (done-none from 0 (downTo grows o y r) r d),
+        λ d. inl (done-none from many (downTo grows o y r) r d),
+      )) p
+
+  -- a cell that leads into the frame leads to a row before the end
+  low : (x y c r : ℕ) → Leads grows w h o words x y c r → downTo grows o y r < h
+  low x y c r l =
+      let q = both (leb (minusBy grows (o .origin .bin .0) r) (y + plusBy grows (o .origin .bin .0) r)) _
+      (l .down) in
+      ltb-true (downTo grows o y r) h (q .1)
+
+  pub part-next : (from many v to : ℕ) (t : List ℕ) → v ≡ h → to ≡ from + many
+      → Part grows s w h o words hs from many v from t → Part grows s w h o words hs to 0 0 to t
+  part-next from many v to t e f p =
+      part-same from many v from to 0 0 to t
+      (λ x y c r hy l. (
+        λ d. inl (omega (arith, f, done-all from many v (downTo grows o y r) r d)),
+        λ d. inr (
+          omega (arith, f, done-none to 0 (downTo grows o y r) r d),
+          inl (omega (arith, e, low x y c r l)),
+        ),
+      )) p
+
+module _ (grows : Bool) (s : List ℕ) (w h : ℕ) (o : Outline) (words hs : List ℕ) (from many : ℕ) where
+  abbrev Is : ℕ → ℕ → List ℕ → Type 0
+  Is v n t = Part grows s w h o words hs from many v n t
+
+  pub part-source : (v n : ℕ) (t : List ℕ) → n ≡ from + many → Is v n t → Is (v + 1) from t
+  part-source v n t e p =
+      part-same grows s w h o words hs from many v n from many (v + 1) from t
+      (λ x y c r hy l. (
+        done-source from many v n (downTo grows o y r) r,
+        done-source-back from many v n (downTo grows o y r) r e,
       )) p
 
   -- the row of the result that row n of the element sees source row v from, and no other does
@@ -105,24 +151,25 @@ module _ (grows : Bool) (s : List ℕ) (w h : ℕ) (o : Outline) (words hs : Lis
   pub part-out : (v n y : ℕ) (t : List ℕ) → y ≡ sourceRow (not grows) h v (o .origin .bin .0) n → h ≤ y
       → Is v n t → Is v (n + 1) t
   part-out v n y t ey out p =
-      part-same v n v (n + 1) t
+      part-same grows s w h o words hs from many v n from many v (n + 1) t
       (λ x z c r hz l. (
-        done-more v n (downTo grows o z r) r,
+        done-more from many v n (downTo grows o z r) r,
         λ d. ⊎-elim (λ d. d)
             (λ a. absurd (omega (arith, out, hz, only v n y ey x z c r hz l (a .1) (a .0))))
-            (done-new v n (downTo grows o z r) r d),
+            (done-new from many v n (downTo grows o z r) r d),
       )) p
 
   -- ---- a row of the element joined into the row of the result that sees source row v by it
   module _ (v n y : ℕ) (t : List ℕ) (few : w ≤ 1024) (hv : v < h) (hy : y < h) (hn : n < o .h)
+      (listed : n < from + many)
       (wide : o .w ≤ mostCells) (column : o .origin .ping .0 < o .w) (len : length t ≡ h * w)
       (ey : y ≡ sourceRow (not grows) h v (o .origin .bin .0) n)
-      (b e row u : List ℕ) (bytes : Bytes b)
+      (b row u : List ℕ) (bytes : Bytes b)
       (is-row : (x : ℕ) → x < w → getD row x 0 ≡ getD s (v * w + x) 0) (row-len : length row ≡ w)
-      (padded : Padded grows row b e) (k m : ℕ) (rising others : List ℕ)
+      (padded : Padded grows row b) (k m : ℕ) (rising others : List ℕ)
       (up : Taken grows true (getD words n 0) (o .w) (o .origin .ping .0) hs (n * o .w) k rising)
       (down : Taken grows false (getD words n 0) (o .w) (o .origin .ping .0) hs (n * o .w) m others)
-      (made : u ≡ weighedRow grows b e (take k rising) (take m others) (midOf (y * w) (y * w + w - y * w) t))
+      (made : u ≡ weighedRow grows b (take k rising) (take m others) (midOf (y * w) (y * w + w - y * w) t))
     where
       abbrev old : List ℕ
       old = midOf (y * w) (y * w + w - y * w) t
@@ -148,7 +195,7 @@ module _ (grows : Bool) (s : List ℕ) (w h : ℕ) (o : Outline) (words hs : Lis
 
       -- column x of the row as it is now
       abbrev joined : ℕ → ℕ
-      joined x = bothAt grows (getD t (y * w + x) 0) b e x (take k rising) (take m others)
+      joined x = bothAt grows (getD t (y * w + x) 0) b x (take k rising) (take m others)
 
       new-here : (x : ℕ) → x < w → getD new (y * w + x) 0 ≡ joined x
       unfolding weighedRow
@@ -156,7 +203,7 @@ module _ (grows : Bool) (s : List ℕ) (w h : ℕ) (o : Outline) (words hs : Lis
           put-within (y * w) (y * w + w - y * w) t u fits u-len x (omega (arith, size))
           ∙ ap (λ m. getD m x 0) made
           ∙ get-first (length old) _ old x (omega arith) (omega (arith, old-len))
-          ∙ ap (λ a. bothAt grows a b e x (take k rising) (take m others)) (old-at x l)
+          ∙ ap (λ a. bothAt grows a b x (take k rising) (take m others)) (old-at x l)
 
       new-else : (x z : ℕ) → x < w → (z < y) ⊎ (y < z) → getD new (z * w + x) 0 ≡ getD t (z * w + x) 0
       new-else x z l side =
@@ -184,7 +231,7 @@ module _ (grows : Bool) (s : List ℕ) (w h : ℕ) (o : Outline) (words hs : Lis
       here-to : (x z : ℕ) → x < w → Bound grows (joined x) z → Bound grows (getD t (y * w + x) 0) z
           × ((c : ℕ) → Leads grows w h o words x y c n → Bound grows (findsAt grows s w o hs x y c n) z)
       here-to x z l q =
-          let r = line-to grows row w b e row-len few bytes padded (getD words n 0) (o .w)
+          let r = line-to grows row w b row-len few bytes padded (getD words n 0) (o .w)
           (o .origin .ping .0)
           hs (n * o .w) wide (omega arith) x l k m rising others up down (getD t (y * w + x) 0) z q in (
             r .0,
@@ -196,7 +243,7 @@ module _ (grows : Bool) (s : List ℕ) (w h : ℕ) (o : Outline) (words hs : Lis
           → ((c : ℕ) → Leads grows w h o words x y c n → Bound grows (findsAt grows s w o hs x y c n) z)
           → Bound grows (joined x) z
       here-from x z l hz q each =
-          line-from grows row w b e row-len few bytes padded (getD words n 0) (o .w) (o .origin .ping .0)
+          line-from grows row w b row-len few bytes padded (getD words n 0) (o .w) (o .origin .ping .0)
           hs (n * o .w) wide (omega arith) x l k m rising others up down (getD t (y * w + x) 0) z hz q
           (λ c hc on t.
           subst (λ i. Bound grows (weighBy grows (getD hs (n * o .w + c) 0) i) z) (sym (found x c l t))
@@ -209,13 +256,13 @@ module _ (grows : Bool) (s : List ℕ) (w h : ℕ) (o : Outline) (words hs : Lis
 
       -- in another row of the result nothing more is done
       else-back : (x z c r : ℕ) → z < h → (z < y) ⊎ (y < z) → Leads grows w h o words x z c r
-          → Done v (n + 1) (downTo grows o z r) r → Done v n (downTo grows o z r) r
+          → Done from many v (n + 1) (downTo grows o z r) r → Done from many v n (downTo grows o z r) r
       else-back x z c r hz apart l d =
           ⊎-elim (λ d. d)
           (λ a. absurd (⊎-elim
           (λ q. omega (arith, q, only v n y ey x z c r hz l (a .1) (a .0)))
           (λ q. omega (arith, q, only v n y ey x z c r hz l (a .1) (a .0))) apart))
-          (done-new v n (downTo grows o z r) r d)
+          (done-new from many v n (downTo grows o z r) r d)
 
       pub part-join : Is v n t → Is v (n + 1) new
       part-join p =
@@ -226,22 +273,22 @@ module _ (grows : Bool) (s : List ℕ) (w h : ℕ) (o : Outline) (words hs : Lis
                 (λ a. p .to x z m hx hz hm (subst (λ i. Bound grows i m) (new-else x z hx a) q) c r l
                 (else-back x z c r hz a l d))
                 (side z);
-            from = λ x z m hx hz hm each. ⊎-elim
+            follows = λ x z m hx hz hm each. ⊎-elim
                 (λ e. subst (λ z. Bound grows (getD new (z * w + x) 0) m) e
                 (at-from x m hx hm (λ c r l d. subst
                 (λ z. (c r : ℕ) → Leads grows w h o words x z c r
-                → Done v (n + 1) (downTo grows o z r) r
+                → Done from many v (n + 1) (downTo grows o z r) r
                 → Bound grows (findsAt grows s w o hs x z c r) m) (sym e) each c r
                 l d)))
                 (λ a. subst (λ i. Bound grows i m) (sym (new-else x z hx a))
-                (p .from x z m hx hz hm
-                (λ c r l d. each c r l (done-more v n (downTo grows o z r) r d))))
+                (p .follows x z m hx hz hm
+                (λ c r l d. each c r l (done-more from many v n (downTo grows o z r) r d))))
                 (side z);
           }
         where
           at-to : (x m : ℕ) → x < w → m < 256 → Bound grows (getD new (y * w + x) 0) m → (z : ℕ) → z ≡ y
               → (c r : ℕ) → Leads grows w h o words x z c r
-              → Done v (n + 1) (downTo grows o z r) r
+              → Done from many v (n + 1) (downTo grows o z r) r
               → Bound grows (findsAt grows s w o hs x z c r) m
           at-to x m hx hm q z e c r l d =
               let f = here-to x m hx (subst (λ i. Bound grows i m) (new-here x hx) q) in
@@ -252,16 +299,16 @@ module _ (grows : Bool) (s : List ℕ) (w h : ℕ) (o : Outline) (words hs : Lis
               (subst (λ i. Bound grows (findsAt grows s w o hs x y c i) m) (sym (a .1))
               (f .1 c (subst (λ i. Leads grows w h o words x y c i) (a .1)
               (subst (λ i. Leads grows w h o words x i c r) e l)))))
-              (done-new v n (downTo grows o z r) r d)
+              (done-new from many v n (downTo grows o z r) r d)
 
           at-from : (x m : ℕ) → x < w → m < 256
               → ((c r : ℕ) → Leads grows w h o words x y c r
-              → Done v (n + 1) (downTo grows o y r) r
+              → Done from many v (n + 1) (downTo grows o y r) r
               → Bound grows (findsAt grows s w o hs x y c r) m)
               → Bound grows (getD new (y * w + x) 0) m
           at-from x m hx hm each =
               subst (λ i. Bound grows i m) (sym (new-here x hx))
               (here-from x m hx hm
-              (p .from x y m hx hy hm
-              (λ c r l d. each c r l (done-more v n (downTo grows o y r) r d)))
-              (λ c l. each c n l (inr (back .1, omega arith))))
+              (p .follows x y m hx hy hm
+              (λ c r l d. each c r l (done-more from many v n (downTo grows o y r) r d)))
+              (λ c l. each c n l (inr (listed, inr (back .1, omega arith)))))

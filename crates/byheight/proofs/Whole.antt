@@ -7,9 +7,7 @@ use mathlib.Core.List.{List}
 use mathlib.Core.Logic.{inl}
 use native.Mathlib.Omega.{arith}
 use native.Mathlib.Nat.{mod-lt, div-lt-iff-lt-mul, div-add-mod'}
-use lib.Dec.{leb}
 use lib.ListN.{length, getD}
-use borrow.Author.Tests.{ltb-true}
 use Rattle.basics.specs.Bytes.{Bytes}
 use Rattle.basics.proofs.Tests.{both}
 use Rattle.picture.specs.declared.Depth.the-variants.{EightBit}
@@ -19,7 +17,7 @@ use Rattle.picture.specs.Bytes.{Picture, bytesOf}
 use Rattle.picture.proofs.Bytes.{bytes-long, bytes-value}
 use Rattle.element.specs.declared.Outline.{Outline}
 use Rattle.element.specs.Record.{cellOn}
-use Rattle.morphology.specs.Operations.{fold, gather, moved, within, erodeBy, dilateBy}
+use Rattle.morphology.specs.Operations.{fold, gather, within, erodeBy, dilateBy}
 use Rattle.morphology.specs.Weighted.{lower, raise}
 use Rattle.morphology.proofs.Order.{erode-bounded, dilate-bounded}
 use Rattle.morphology.proofs.Weights.{raise-holds}
@@ -28,9 +26,8 @@ use Rattle.byterow.specs.Steps.Row.{heightenedBy, sweptBytes}
 use Rattle.byterow.proofs.Row.{bytes-bounded}
 use Rattle.windows.specs.Steps.Bounds.{Bound}
 use Rattle.windows.proofs.Bounds.{fold-to, fold-from}
-use Rattle.sourceparts.specs.Steps.Part.{downTo, Leads}
-use Rattle.sourceparts.proofs.Bytes.{byte-start}
-use Rattle.sourceparts.proofs.Bytes.{bytes-same, lists-same}
+use Rattle.sourceparts.specs.Steps.Part.{Leads}
+use Rattle.sourceparts.proofs.Bytes.{byte-start, bytes-same, lists-same}
 use Rattle.byheight.specs.Steps.Part.{findsAt, Part}
 
 module _ (grows : Bool) (s : List ℕ) (w h : ℕ) (o : Outline) (words hs : List ℕ) (x y : ℕ) where
@@ -101,22 +98,20 @@ module _ (grows : Bool) (s : List ℕ) (w h : ℕ) (o : Outline) (words hs : Lis
           each c r (record { column = hc; row = hr; set = p .0; across = q .0; down = q .1 })
       by c r hc hr false e = byte-start grows z hz
 
-  -- ---- all source rows are done
-  module _ (t : List ℕ) (v : ℕ) (all : v ≡ h) (source : Bytes s) (target : Bytes t)
-      (done : Part grows s w h o words hs v 0 t) where
-    -- a cell that leads into the frame leads to a row before the end
-    low : (x y c r : ℕ) → Leads grows w h o words x y c r → downTo grows o y r < v
-    low x y c r l =
-        let q = both (leb (minusBy grows (o .origin .bin .0) r) (y + plusBy grows (o .origin .bin .0) r)) _
-        (l .down) in
-        let k = ltb-true (downTo grows o y r) h (q .1) in omega arith
-
+  -- ---- all rows of the element are done
+  module _ (t : List ℕ) (v : ℕ) (all : o .h ≤ v) (source : Bytes s) (target : Bytes t)
+      (done : Part grows s w h o words hs v 0 0 v t) where
     point : (x y : ℕ) → x < w → y < h → getD t (y * w + x) 0 ≡ P x y
     point x y hx hy =
         bytes-same grows (getD t (y * w + x) 0) (P x y) (target (y * w + x)) (omega
         (arith, swept-small grows s w h o words hs source x y hx hy))
-        (λ z hz b. swept-from x y z hz (λ c r l. done .to x y z hx hy hz b c r l (inl (low x y c r l))))
-        (λ z hz b. done .from x y z hx hy hz (λ c r l d. swept-to x y z b c r l))
+        (λ z hz b. swept-from x y z hz (λ c r l. done .to x y z hx hy hz b c r l (inl (omega (
+          arith,
+          all,
+          l
+              .row,
+        )))))
+        (λ z hz b. done .follows x y z hx hy hz (λ c r l d. swept-to x y z b c r l))
 
     bytes-at : (x y : ℕ) → x < w → y < h → getD (bytesOf EightBit P w h) (y * w + x) 0 ≡ P x y
     unfolding valueAt valueIn

@@ -1,2 +1,3 @@
--- How the work goes: the result while it is made.
+-- How the work goes: the cells that are listed, and the result while it is made.
+pub mod Listed
 pub mod Part

@@ -8,18 +8,20 @@ use native.Mathlib.Omega.{arith}
 use native.Mathlib.Nat.{eq-or-lt-of-le}
 use native.Mathlib.Numerals.{add-one}
 use lib.ListN.{length, getD}
+use borrow.Author.Tests.{leb-true}
 use Rattle.basics.specs.Lists.{firsts}
 use Rattle.basics.proofs.Lists.{length-firsts, getD-firsts, firsts-same, list-is}
 use Rattle.morphology.specs.Operations.{fold}
 use Rattle.rows.specs.Steps.Fold.{joinBy}
 use Rattle.blocks.specs.Steps.Laid.{laid}
 use Rattle.blocks.specs.Steps.Block.{blockOf}
-use Rattle.blocks.proofs.Laid.{laid-none, laid-next, still, length-laid}
-use Rattle.weighblocks.specs.Steps.Cells.{bothAt, weighedRow, Near}
+use Rattle.blocks.proofs.Laid.{laid-none, laid-next, still, get-first}
+use Rattle.windows.proofs.Bounds.{fold-to}
+use Rattle.weighblocks.specs.Steps.Cells.{bothAt, weighedRow}
 use Rattle.weighblocks.proofs.Blocks.{swap, bothIn, rowAt, row-joined}
-use Rattle.freeblocks.specs.Steps.Plain.{plainBy, plainBlock, plainFound, plainCells, plainBoth}
-use Rattle.freeblocks.specs.Steps.Plain.{turnedBy, Far, Ends, Under}
-use Rattle.freeblocks.proofs.Held.{plain-is}
+use Rattle.freeblocks.specs.Steps.Plain.{plainBy, plainBlock, plainCells, plainBoth, turnedBy}
+use Rattle.freeblocks.specs.Steps.Plain.{Far, Sure, Under, leastOf, sureOf}
+use Rattle.freeblocks.proofs.Held.{plain-is, plain-far, held-far}
 
 got : (n : ℕ) (f : ℕ → ℕ) (l : List ℕ) → l ≡ firsts f n → (j : ℕ) → j < n → getD l j 0 ≡ f j
 got n f l e j h = ap (λ m. getD m j 0) e ∙ getD-firsts f n j h
@@ -48,21 +50,21 @@ module _ (grows up : Bool) (c b : List ℕ) (i : ℕ) (cells : List ℕ) where
   cells-length acc j q = ap length q ∙ length-firsts _ 128
 
 -- ---- a row: as many of its blocks as show no end, those that are left, and the bytes past them
-module _ (grows : Bool) (b e rising others t : List ℕ) where
+module _ (grows : Bool) (b rising others t : List ℕ) where
   abbrev row : ℕ → ℕ
-  row m = rowAt grows b e rising others t m
+  row m = rowAt grows b rising others t m
 
   pub free-none : t ≡ laid 0 (128 * 0) row t
   free-none = laid-none 0 row t
 
-  pub free-more : (limit : ℕ) → Ends grows b e → Near rising → Under rising limit
-      → (u c x d v : List ℕ) (k : ℕ) → 128 * k + 128 ≤ length t → 128 * k + 128 ≤ 1024
+  pub free-more : (limit : ℕ) → Under rising limit
+      → (u c x d v : List ℕ) (k : ℕ) → 128 * k + 128 ≤ length t
       → u ≡ laid 0 (128 * k) row t → c ≡ firsts (λ j. getD u (128 * k + j) 0) 128
       → x ≡ cellsAt grows grows c b (128 * k) rising (length rising)
       → d ≡ cellsAt grows (not grows) x b (128 * k) others (length others) → Far grows d limit
       → v ≡ laid (128 * k) 128 (λ j. getD d j 0) u → v ≡ laid 0 (128 * (k + 1)) row t
   unfolding plainBoth
-  free-more limit ends near under u c x d v k fits small so ec ex ed far ev =
+  free-more limit under u c x d v k fits so ec ex ed far ev =
       laid-next 0 (128 * k) 128 row (λ j. getD d j 0) t u v (omega arith) so
       (ev ∙ ap (λ n. laid n 128 (λ j. getD d j 0) u) (zero-plus (128 * k)))
       (λ j h. each j h)
@@ -83,11 +85,33 @@ module _ (grows : Bool) (b e rising others t : List ℕ) where
       each : (j : ℕ) → j < 128 → getD d j 0 ≡ row (128 * k + j)
       each j h =
           value j h
-          ∙ plain-is grows b e ends (128 * k + j) (omega arith) rising others near (getD c j 0) limit under
+          ∙ plain-is grows b (128 * k + j) rising others (getD c j 0) limit under
           (subst (λ n. limit ≤ turnedBy grows n) (value j h) (far j h))
-          ∙ ap (λ n. bothAt grows n b e (128 * k + j) rising others)
+          ∙ ap (λ n. bothAt grows n b (128 * k + j) rising others)
           (got 128 _ c ec j h
           ∙ still 0 (128 * k) row t u (128 * k + j) (omega arith) (omega arith) so)
+
+  -- the same of a row that is sure, or of one where the look is worth what it finds
+  pub free-any : (sure : Bool) (limit n : ℕ) → (sure ≡ true → Sure grows n t) → Under rising 128
+      → (sure ≡ false → Under rising limit)
+      → (u c x d v : List ℕ) (k : ℕ) → k < n → 128 * k + 128 ≤ length t
+      → u ≡ laid 0 (128 * k) row t → c ≡ firsts (λ j. getD u (128 * k + j) 0) 128
+      → x ≡ cellsAt grows grows c b (128 * k) rising (length rising)
+      → d ≡ cellsAt grows (not grows) x b (128 * k) others (length others) → Far grows d limit
+      → v ≡ laid (128 * k) 128 (λ j. getD d j 0) u → v ≡ laid 0 (128 * (k + 1)) row t
+  unfolding plainBoth
+  free-any true limit n sure under low u c x d v k few fits so ec ex ed far ev =
+      free-more 128 under u c x d v k fits so ec ex ed
+      (λ m h. subst (λ i. 128 ≤ turnedBy grows i)
+      (sym (got 128 _ d ed m h
+      ∙ ap (λ v. plainCells grows (not grows) v b (128 * k + m) others (length others))
+      (got 128 _ x ex m h)))
+      (plain-far grows b (128 * k + m) rising others (getD c m 0) 128
+      (subst (λ i. 128 ≤ turnedBy grows i)
+      (sym (got 128 _ c ec m h ∙ still 0 (128 * k) row t u (128 * k + m) (omega arith) (omega arith) so))
+      (sure refl (128 * k + m) (omega arith))))) ev
+  free-any false limit n sure under low u c x d v k few fits so ec ex ed far ev =
+      free-more limit (low refl) u c x d v k fits so ec ex ed far ev
 
   -- from the block `from` on
   abbrev pub later : ℕ → ℕ → ℕ
@@ -102,7 +126,7 @@ module _ (grows : Bool) (b e rising others t : List ℕ) where
 
   pub held-more : (u c d v : List ℕ) (from k : ℕ) → from ≤ k → 64 * k + 64 ≤ length t
       → u ≡ laid (64 * from) (64 * k - 64 * from) (later from) t → c ≡ blockOf u (64 * k)
-      → d ≡ bothIn grows b e rising others c (64 * k) → v ≡ laid (64 * k) 64 (λ j. getD d j 0) u
+      → d ≡ bothIn grows b rising others c (64 * k) → v ≡ laid (64 * k) 64 (λ j. getD d j 0) u
       → v ≡ laid (64 * from) (64 * (k + 1) - 64 * from) (later from) t
   unfolding blockOf
   held-more u c d v from k h fits so ec ed ev =
@@ -126,23 +150,23 @@ module _ (grows : Bool) (b e rising others t : List ℕ) where
       each : (j : ℕ) → j < 64 → getD d j 0 ≡ later from (64 * k - 64 * from + j)
       each j l =
           got 64 _ d ed j l
-          ∙ ap (λ n. bothAt grows n b e (64 * k + j) rising others)
+          ∙ ap (λ n. bothAt grows n b (64 * k + j) rising others)
           (block j l ∙ still (64 * from) (64 * k - 64 * from) (later from) t u (64 * k + j) (omega arith)
           (omega arith) so)
           ∙ ap row (here j)
 
   pub row-whole : (u w v : List ℕ) (k n : ℕ) → 2 * k ≤ n → 64 * n ≤ length t → u ≡ laid 0 (128 * k) row t
       → w ≡ laid (64 * (2 * k)) (64 * n - 64 * (2 * k))
-      (λ m. bothAt grows (getD u (64 * (2 * k) + m) 0) b e (64 * (2 * k) + m) rising others) u
+      (λ m. bothAt grows (getD u (64 * (2 * k) + m) 0) b (64 * (2 * k) + m) rising others) u
       → v ≡ laid (64 * n) (length w - 64 * n)
-      (λ m. bothAt grows (getD w (64 * n + m) 0) b e (64 * n + m) rising others) w
-      → v ≡ weighedRow grows b e rising others t
+      (λ m. bothAt grows (getD w (64 * n + m) 0) b (64 * n + m) rising others) w
+      → v ≡ weighedRow grows b rising others t
   row-whole u w v k n few fits eu ew ev =
-      row-joined grows b e rising others t w v n fits
+      row-joined grows b rising others t w v n fits
       (laid-next 0 (128 * k) (64 * n - 64 * (2 * k)) row _ t u w (omega arith) eu
       (ew ∙ ap (λ a. laid a (64 * n - 64 * (2 * k))
-      (λ m. bothAt grows (getD u (64 * (2 * k) + m) 0) b e (64 * (2 * k) + m) rising others) u) (twice k))
-      (λ j h. ap₂ (λ v m. bothAt grows v b e m rising others)
+      (λ m. bothAt grows (getD u (64 * (2 * k) + m) 0) b (64 * (2 * k) + m) rising others) u) (twice k))
+      (λ j h. ap₂ (λ v m. bothAt grows v b m rising others)
       (ap (λ i. getD u (i + j) 0) (double k)
       ∙ still 0 (128 * k) row t u (128 * k + j) (omega arith) (omega arith) eu)
       (ap (λ i. i + j) (double k)))
@@ -173,3 +197,30 @@ over-more f g h j so e i l =
   where
     below-one : (i n : ℕ) → i < n + 1 → i ≤ n
     below-one i n h = omega arith
+
+-- ---- a row that is sure stays so
+pub sure-kept : (grows : Bool) (b rising others t : List ℕ) (n : ℕ) → 128 * n ≤ length t → Sure grows n t
+    → Sure grows n (weighedRow grows b rising others t)
+unfolding weighedRow
+sure-kept grows b rising others t n fits sure m h =
+    subst (λ i. 128 ≤ turnedBy grows i)
+    (sym (get-first (length t) (λ m. bothAt grows (getD t m 0) b m rising others) t m (omega arith)
+    (omega arith)))
+    (held-far grows b m rising others (getD t m 0) 128 (sure m h))
+
+-- and one that was looked at is
+pub sure-is : (grows : Bool) (t : List ℕ) → sureOf grows t ≡ true → Sure grows (length t / 128) t
+unfolding sureOf leastOf
+sure-is grows t e m h =
+    fold-to false 255 (λ i. turnedBy grows (getD t i 0)) 128 (128 * (length t / 128))
+    (leb-true 128 (leastOf grows t (128 * (length t / 128))) e) .1 m h
+
+pub least-none : (grows : Bool) (t : List ℕ) → 255 ≡ leastOf grows t 0
+unfolding leastOf fold
+least-none grows t = refl
+
+pub least-more : (grows : Bool) (t : List ℕ) (w v i : ℕ) → w ≡ leastOf grows t i
+    → v ≡ min w (turnedBy grows (getD t i 0)) → v ≡ leastOf grows t (i + 1)
+unfolding leastOf fold
+least-more grows t w v i e q =
+    q ∙ ap (λ w. min w (turnedBy grows (getD t i 0))) e ∙ ap (leastOf grows t) (sym (add-one i))

@@ -2,8 +2,8 @@
 // A value at the end that is not held makes no more than the size of a height: where all values of a block
 // come out beyond the sizes, none of them was made so. From the first block that shows one, ends are held.
 ghost use mathlib.Core.Path.{_≡_};
-ghost use mathlib.Core.Bool.{false};
-ghost use Prim.Native.Nat.{_+_, _-_, _*_, _≤_, _<_};
+ghost use mathlib.Core.Bool.{true, false};
+ghost use Prim.Native.Nat.{_+_, _-_, _*_, _/_, _≤_, _<_};
 ghost use lib.ListN.{length, getD};
 ghost use Rattle.basics.specs.Lists.{firsts};
 ghost use Rattle.picture.specs.Frame.{mostPings};
@@ -11,7 +11,7 @@ ghost use Rattle.rows.specs.Steps.Fold.{joinBy};
 ghost use Rattle.blocks.specs.Steps.Laid.{laid};
 ghost use Rattle.weighblocks.specs.Steps.Cells.{bothAt, weighedRow, Near, Near2};
 ghost use Rattle.freeblocks.specs.Steps.Plain.{plainBy, plainBlock, plainCells, turnedBy};
-ghost use Rattle.freeblocks.specs.Steps.Plain.{Far, Ends, Under};
+ghost use Rattle.freeblocks.specs.Steps.Plain.{Far, Sure, Under, leastOf, sureOf};
 
 const WIDE: usize = 128;
 
@@ -129,10 +129,13 @@ fn most_of(cells: &[u16]) -> u8
     g
 }
 
-// What is above the size of every cell.
-fn limit_of(cells: &[u16]) -> usize
-    ensures { λ r. ⌜ Under (now (cells .entry)) r ⌝ }
+// What is above the size of every cell; 0 where no end has to be looked for.
+fn limit_of(sure: bool, cells: &[u16]) -> usize
+    ensures { λ r. ⌜ (sure ≡ false → Under (now (cells .entry)) r) ⌝ }
 {
+    if sure {
+        return 0;
+    }
     if cells.len() == 0 {
         return 0;
     }
@@ -140,24 +143,24 @@ fn limit_of(cells: &[u16]) -> usize
 }
 
 // As many of the first n pairs of blocks as show no end, joined with what both lists of cells find;
-// it gives how many they are. What would hold the ends is only what is said of it.
+// it gives how many they are. In a row that is sure none shows one.
 fn join_free(
     grows: bool,
+    sure: bool,
     t: &mut [u8],
     n: usize,
     b: &[u8],
-    e: &[u8],
     rising: &[u16],
     others: &[u16],
     limit: usize,
 ) -> usize
     requires { ⌜ (128 * n ≤ length (now t)) × (128 * n ≤ mostPings) ⌝ }
-    requires { ⌜ (length (now b) ≡ 1152) × Ends grows (now b) (now e) ⌝ }
-    requires { ⌜ Near2 (now rising) (now others) ⌝ }
-    requires { ⌜ Under (now rising) limit ⌝ }
+    requires { ⌜ (length (now b) ≡ 1152) × Near2 (now rising) (now others) ⌝ }
+    requires { ⌜ (sure ≡ true → Sure grows n (now t)) × Under (now rising) 128 ⌝ }
+    requires { ⌜ (sure ≡ false → Under (now rising) limit) ⌝ }
     ensures few { λ r. ⌜ r ≤ n ⌝ }
     ensures bytes { λ r. ⌜ now (t .exit) ≡ laid 0 (128 * r)
-        (λ m. bothAt grows (getD (now (t .entry)) m 0) (now (b .entry)) (now (e .entry)) m
+        (λ m. bothAt grows (getD (now (t .entry)) m 0) (now (b .entry)) m
         (now (rising .entry)) (now (others .entry))) (now (t .entry)) ⌝ }
 {
     let mut k = 0;
@@ -182,60 +185,79 @@ fn join_held(
     from: usize,
     n: usize,
     b: &[u8],
-    e: &[u8],
     rising: &[u16],
     others: &[u16],
 )
     requires { ⌜ (from ≤ n) × ((64 * n ≤ length (now t)) × (64 * n ≤ mostPings)) ⌝ }
-    requires { ⌜ (length (now b) ≡ 1152) × (length (now e) ≡ 1152) ⌝ }
-    requires { ⌜ Near2 (now rising) (now others) ⌝ }
+    requires { ⌜ (length (now b) ≡ 1152) × Near2 (now rising) (now others) ⌝ }
     ensures { λ _. ⌜ now (t .exit) ≡ laid (64 * from) (64 * n - 64 * from)
-        (λ m. bothAt grows (getD (now (t .entry)) (64 * from + m) 0) (now (b .entry)) (now (e .entry))
+        (λ m. bothAt grows (getD (now (t .entry)) (64 * from + m) 0) (now (b .entry))
         (64 * from + m) (now (rising .entry)) (now (others .entry))) (now (t .entry)) ⌝ }
 {
     let mut k = from;
     while k < n {
         let i = 64 * k;
         let c = blocks::block_at(t, i);
-        let d = weighblocks::join_both(grows, c, b, e, i, rising, others);
+        let d = weighblocks::join_both(grows, c, b, i, rising, others);
         blocks::put_block(t, i, d);
         k += 1;
     }
 }
 
-// What the cells of an element row find in a row of values b, whose ends stand in e, joined into the row t.
-// With `bold` as many blocks as show no end go without what holds it.
+// How near the first n values of a row come to the end.
+fn least_in(grows: bool, t: &[u8], n: usize) -> u8
+    requires { ⌜ n ≤ length (now t) ⌝ }
+    ensures { λ r. ⌜ r ≡ leastOf grows (now (t .entry)) n ⌝ }
+{
+    let mut w = 255u8;
+    let mut i = 0;
+    while i < n {
+        w = basics::lesser_byte(w, turned(grows, t[i]));
+        i += 1;
+    }
+    w
+}
+
+// Whether no value of a row's pairs of blocks is nearer to the end than 128.
+pub fn is_sure(grows: bool, t: &[u8]) -> bool
+    ensures { λ r. ⌜ r ≡ sureOf grows (now (t .entry)) ⌝ }
+{
+    128 <= least_in(grows, t, WIDE * (t.len() / WIDE))
+}
+
+// What the cells of an element row find in a row of values b, joined into the row t.
+// With `bold` as many blocks as show no end go without what holds it; a row that is sure needs no look.
 pub fn join_row(
     grows: bool,
     bold: bool,
+    sure: bool,
     t: &mut [u8],
     b: &[u8],
-    e: &[u8],
     rising: &[u16],
     others: &[u16],
 )
     requires { ⌜ length (now t) ≤ mostPings ⌝ }
-    requires { ⌜ (length (now b) ≡ 1152) × ((length (now e) ≡ 1152) × Ends grows (now b) (now e)) ⌝ }
-    requires { ⌜ Near2 (now rising) (now others) ⌝ }
+    requires { ⌜ (length (now b) ≡ 1152) × Near2 (now rising) (now others) ⌝ }
+    requires { ⌜ (sure ≡ true → Sure grows (length (now t) / 128) (now t)) × Under (now rising) 128 ⌝ }
     ensures { λ _. ⌜ now (t .exit)
-        ≡ weighedRow grows (now (b .entry)) (now (e .entry)) (now (rising .entry)) (now (others .entry))
+        ≡ weighedRow grows (now (b .entry)) (now (rising .entry)) (now (others .entry))
         (now (t .entry)) ⌝ }
 {
     if !bold {
-        weighblocks::join_row(grows, t, b, e, rising, others);
+        weighblocks::join_row(grows, t, b, rising, others);
         return;
     }
     let k = join_free(
         grows,
+        sure,
         t,
         t.len() / WIDE,
         b,
-        e,
         rising,
         others,
-        limit_of(rising),
+        limit_of(sure, rising),
     );
     let n = t.len() / 64;
-    join_held(grows, t, 2 * k, n, b, e, rising, others);
-    weighblocks::join_rest(grows, t, 64 * n, b, e, rising, others);
+    join_held(grows, t, 2 * k, n, b, rising, others);
+    weighblocks::join_rest(grows, t, 64 * n, b, rising, others);
 }

@@ -1,25 +1,18 @@
 -- A value lifted by the sign and the size of a height is the value that the weighted rule makes of it.
-use Prim.Native.Nat.{ℕ, _+_, _-_, _%_, _≤_, _<_, min}
+use Prim.Native.Nat.{ℕ, _+_, _-_, _≤_, min}
 use mathlib.Core.Path.{_≡_, refl, sym, ap, _∙_}
 use mathlib.Core.Bool.{Bool, true, false, cond, not}
 use mathlib.Core.Logic.{⊎-elim}
 use native.Mathlib.Omega.{arith}
 use native.Mathlib.Nat.{eq-zero-or-pos}
 use lib.Dec.{eqb, ltb}
-use lib.Bits.{bitAnd, bitOr, and-mask, or-add-and, and-zero-r, or-zero-r}
-use borrow.Author.Tests.{eqb-true, ne-eqb}
+use borrow.Author.Tests.{eqb-true, eq-eqb, ne-eqb}
 use Rattle.morphology.specs.Weighted.{lower, raise, heldLess, heldMore}
-use Rattle.morphology.proofs.Weights.{lower-end, lower-inside, raise-end, raise-inside, loudest-or}
-use Rattle.morphology.proofs.Weights.{lower-zero, raise-zero}
+use Rattle.morphology.proofs.Weights.{lower-end, lower-inside, raise-end}
+use Rattle.morphology.proofs.Weights.{raise-inside, loudest-or, lower-zero, raise-zero}
 use Rattle.rows.specs.Steps.Ways.{weighBy}
 use Rattle.weighblocks.specs.Steps.Lift.{liftBy}
-use Rattle.heightsigns.specs.Steps.Sides.{risesOf, sideOf, sizeOf, endOf}
-
-pub and-all : (x : ℕ) → x < 256 → bitAnd x 255 ≡ x
-and-all x h = let e : bitAnd x 255 ≡ x % 256 = and-mask x 8 in omega arith
-
-pub or-all : (x : ℕ) → x < 256 → bitOr x 255 ≡ 255
-or-all x h = omega (arith, or-add-and x 255, and-all x h)
+use Rattle.heightsigns.specs.Steps.Sides.{risesOf, sideOf, sizeOf}
 
 -- ---- a height below the sign, and one from there on
 more-up : (g v : ℕ) → ltb g 128 ≡ true → heldMore g v ≡ min 255 (v + g)
@@ -39,23 +32,21 @@ unfolding heldLess
 less-down g v e = rw e
 
 -- ---- a height that raises
-rise-grow : (g v : ℕ) → ltb g 128 ≡ true → v ≤ 255 → bitAnd (min 255 (v + g)) (endOf true v) ≡ raise g v
+rise-grow : (g v : ℕ) → ltb g 128 ≡ true → v ≤ 255 → cond (eqb v 0) 0 (min 255 (v + g)) ≡ raise g v
 rise-grow g v e h =
     ⊎-elim
-    (λ z. ap (λ v. bitAnd (min 255 (v + g)) (endOf true v)) z ∙ and-zero-r (min 255 (0 + g))
-    ∙ sym (ap (raise g) z ∙ raise-end g))
-    (λ p. ap (λ b. bitAnd (min 255 (v + g)) (cond b 0 255)) (ne-eqb v 0 (λ z. omega arith))
-    ∙ and-all (min 255 (v + g)) (omega arith) ∙ sym (raise-inside g v p ∙ more-up g v e))
+    (λ z. ap (λ b. cond b 0 (min 255 (v + g))) (eq-eqb v 0 z) ∙ sym (ap (raise g) z ∙ raise-end g))
+    (λ p. ap (λ b. cond b 0 (min 255 (v + g))) (ne-eqb v 0 (λ z. omega arith))
+    ∙ sym (raise-inside g v p ∙ more-up g v e))
     (eq-zero-or-pos v)
 
-rise-shrink : (g v : ℕ) → ltb g 128 ≡ true → v ≤ 255 → bitOr (v - g) (endOf false v) ≡ lower g v
+rise-shrink : (g v : ℕ) → ltb g 128 ≡ true → v ≤ 255 → cond (eqb v 255) 255 (v - g) ≡ lower g v
 rise-shrink g v e h =
     ⊎-elim
     (λ z. let q : v ≡ 255 = omega arith in
-    ap (λ b. bitOr (v - g) (cond b 255 0)) (ap (λ v. eqb v 255) q)
-    ∙ or-all (v - g) (omega arith) ∙ sym (lower-end g v z))
-    (λ p. ap (λ b. bitOr (v - g) (cond b 255 0)) (ne-eqb v 255 (λ z. omega arith))
-    ∙ or-zero-r (v - g) ∙ sym (lower-inside g v p ∙ less-up g v e))
+    ap (λ b. cond b 255 (v - g)) (eq-eqb v 255 q) ∙ sym (lower-end g v z))
+    (λ p. ap (λ b. cond b 255 (v - g)) (ne-eqb v 255 (λ z. omega arith))
+    ∙ sym (lower-inside g v p ∙ less-up g v e))
     (loudest-or v)
 
 -- ---- one that does not: the end stays by itself
@@ -90,7 +81,7 @@ fall-shrink g v n h = by (ltb g 128) refl
         (λ p. sym (lower-inside g v p ∙ less-down g v e)) (loudest-or v)
 
 -- ---- at either side
-rises-below : (a b : Bool) → cond a false b ≡ true → b ≡ true
+pub rises-below : (a b : Bool) → cond a false b ≡ true → b ≡ true
 rises-below true b p = let z : _≡_ {A = ℕ} 0 1 = cc in absurd (omega arith)
 rises-below false b p = p
 
@@ -99,12 +90,12 @@ falls true p = let z : _≡_ {A = ℕ} 0 1 = cc in absurd (omega arith)
 falls false p = refl
 
 pub lift-is : (grows rises : Bool) (g v : ℕ) → sideOf rises g ≡ true → v ≤ 255
-    → liftBy grows rises (sizeOf g) v (endOf grows v) ≡ weighBy grows g v
+    → liftBy grows rises (sizeOf g) v ≡ weighBy grows g v
 lift-is true true g v s h =
     let e = rises-below (eqb g 0) (ltb g 128) s in
-    ap (λ b. bitAnd (min 255 (v + cond b g (256 - g))) (endOf true v)) e ∙ rise-grow g v e h
+    ap (λ b. cond (eqb v 0) 0 (min 255 (v + cond b g (256 - g)))) e ∙ rise-grow g v e h
 lift-is true false g v s h = fall-grow g v (falls (risesOf g) s) h
 lift-is false true g v s h =
     let e = rises-below (eqb g 0) (ltb g 128) s in
-    ap (λ b. bitOr (v - cond b g (256 - g)) (endOf false v)) e ∙ rise-shrink g v e h
+    ap (λ b. cond (eqb v 255) 255 (v - cond b g (256 - g))) e ∙ rise-shrink g v e h
 lift-is false false g v s h = fall-shrink g v (falls (risesOf g) s) h

@@ -5,20 +5,18 @@ use mathlib.Core.Bool.{Bool, true, false, cond, not, _&&_}
 use mathlib.Core.List.{List}
 use mathlib.Core.Logic.{_⊎_, inl, inr, ⊎-elim}
 use native.Mathlib.Omega.{arith}
-use lib.Dec.{leb, ltb}
+use lib.Dec.{eqb, leb, ltb}
 use lib.ListN.{length, getD, take, replicate, length-replicate, getD-replicate}
 use lib.Seq.{getD-take, length-take-le}
 use borrow.Author.Tests.{lt-ltb, le-leb, leb-true, ltb-true, ltb-false}
 use Rattle.basics.specs.Bytes.{Bytes}
-use Rattle.basics.specs.Lists.{firsts}
 use Rattle.basics.proofs.Tests.{both}
-use Rattle.basics.proofs.Lists.{getD-firsts, length-firsts}
 use Rattle.basics.proofs.SliceParts.{below-or-not}
 use Rattle.element.specs.Record.{cellOn}
-use Rattle.morphology.specs.Operations.{fold, moved, within}
+use Rattle.morphology.specs.Operations.{moved, within}
 use Rattle.morphology.proofs.Weights.{lower-end, raise-end}
 use Rattle.rows.specs.Steps.Ways.{weighBy}
-use Rattle.rows.specs.Steps.Fold.{joinBy, startBy, plusBy, minusBy}
+use Rattle.rows.specs.Steps.Fold.{startBy, plusBy, minusBy}
 use Rattle.blocks.specs.Steps.Laid.{laid}
 use Rattle.blocks.proofs.Laid.{get-in, get-before, get-after, length-laid}
 use Rattle.windows.specs.Steps.Bounds.{Bound}
@@ -27,20 +25,19 @@ use Rattle.packedline.specs.Steps.Cells.{placeOf}
 use Rattle.packedline.specs.Steps.Padded.{facedByte}
 use Rattle.weighblocks.specs.Steps.Lift.{liftBy}
 use Rattle.weighblocks.specs.Steps.Cells.{foundBy, atCells, bothAt, Near}
-use Rattle.heightsigns.specs.Steps.Sides.{sideOf, sizeOf, endOf}
-use Rattle.heightsigns.specs.Steps.Taken.{takenOf, entryOf, Taken}
-use Rattle.heightsigns.proofs.Lift.{lift-is}
+use Rattle.heightsigns.specs.Steps.Sides.{sideOf, sizeOf}
+use Rattle.heightsigns.specs.Steps.Taken.{entryOf, Taken}
+use Rattle.heightsigns.proofs.Lift.{lift-is, rises-below}
 use Rattle.sourceparts.proofs.Bytes.{byte-start}
 use Rattle.heightsigns.specs.Steps.Padded.{Padded}
 
 -- ---- the row, as it is filled in
-pub row-padded : (grows : Bool) (s u e : List ℕ) → length s ≤ 1024
+pub row-padded : (grows : Bool) (s u : List ℕ) → length s ≤ 1024
     → u ≡ laid 64 (length s) (λ i. facedByte false (getD s i 0)) (replicate 1152 (startBy grows 255))
-    → length e ≡ 1152 → e ≡ firsts (λ i. endOf grows (getD u i 0)) 1152 → Padded grows s u e
-row-padded grows s u e few eu le ee =
+    → Padded grows s u
+row-padded grows s u few eu =
     record {
       values = ap length eu ∙ length-laid 64 (length s) f r ∙ long;
-      ends = le;
       inside = λ i h. ap (λ l. getD l (64 + i) 0) eu
           ∙ get-in 64 (length s) f r i (subst (λ n. 64 + length s ≤ n) (sym long) (omega arith)) h;
       before = λ q h. ap (λ l. getD l q 0) eu
@@ -49,7 +46,6 @@ row-padded grows s u e few eu le ee =
       after = λ q h k. ap (λ l. getD l q 0) eu
           ∙ get-after 64 (length s) f r q (subst (λ n. q < n) (sym long) k) h
           ∙ getD-replicate 1152 q (startBy grows 255) 0 k;
-      held = λ q h. ap (λ l. getD l q 0) ee ∙ getD-firsts (λ i. endOf grows (getD u i 0)) 1152 q h;
     }
   where
     f : ℕ → ℕ
@@ -117,8 +113,26 @@ cells-near grows rises word wide o hs first count cells hw ho taken j h =
     (subst (λ p. p < 128) (sym (entry-place grows o (f .0) g))
     (place-lt grows o (f .0) ho (omega (arith, f .1 .0))))
 
-module _ (grows : Bool) (s : List ℕ) (w : ℕ) (b e : List ℕ) (len : length s ≡ w) (few : w ≤ 1024)
-    (bytes : Bytes b) (padded : Padded grows s b e) (word wide o : ℕ) (hs : List ℕ) (first : ℕ)
+-- a height that raises is below the sign
+risen-small : (g : ℕ) → sideOf true g ≡ true → sizeOf g < 128
+risen-small g s =
+    let e = rises-below (eqb g 0) (ltb g 128) s in
+    subst (λ b. cond b g (256 - g) < 128) (sym e) (ltb-true g 128 e)
+
+pub cells-under : (grows : Bool) (word wide o : ℕ) (hs : List ℕ) (first count : ℕ) (cells : List ℕ)
+    → Taken grows true word wide o hs first count cells
+    → (j : ℕ) → j < length (take count cells) → getD (take count cells) j 0 % 256 < 128
+cells-under grows word wide o hs first count cells taken j h =
+    let l : j < count = subst (λ n. j < n) (length-take-le count cells (omega
+    (arith, taken .few, taken .long))) h in
+    let f = taken .inside j l in
+    let g = getD hs (first + f .0) 0 in
+    subst (λ k. k % 256 < 128) (sym (getD-take count cells j 0 l ∙ f .1 .1 .1))
+    (subst (λ p. p < 128) (sym (entry-size grows o (f .0) g))
+    (risen-small g (both (cellOn word (f .0)) (sideOf true g) (f .1 .1 .0) .1)))
+
+module _ (grows : Bool) (s : List ℕ) (w : ℕ) (b : List ℕ) (len : length s ≡ w) (few : w ≤ 1024)
+    (bytes : Bytes b) (padded : Padded grows s b) (word wide o : ℕ) (hs : List ℕ) (first : ℕ)
     (hw : wide ≤ 64) (ho : o < 64) (x : ℕ) (hx : x < w) where
   abbrev height : ℕ → ℕ
   height c = getD hs (first + c) 0
@@ -171,16 +185,13 @@ module _ (grows : Bool) (s : List ℕ) (w : ℕ) (b e : List ℕ) (len : length 
   -- ---- what the number of a cell finds
   found-is : (rises : Bool) (c k : ℕ) → c < wide → sideOf rises (height c) ≡ true
       → k ≡ entryOf grows o c (height c)
-      → foundBy grows rises b e x k ≡ weighBy grows (height c) (getD b (x + placeOf grows o c) 0)
+      → foundBy grows rises b x k ≡ weighBy grows (height c) (getD b (x + placeOf grows o c) 0)
   found-is rises c k hc side q =
-      let hc64 : c < 64 = omega arith in
       let p = x + placeOf grows o c in
       let small = bytes p in
-      ap (foundBy grows rises b e x) q
-      ∙ ap₂ (λ a d. liftBy grows rises a (getD b (x + d) 0) (getD e (x + d) 0))
+      ap (foundBy grows rises b x) q
+      ∙ ap₂ (λ a d. liftBy grows rises a (getD b (x + d) 0))
       (entry-size grows o c (height c)) (entry-place grows o c (height c))
-      ∙ ap (liftBy grows rises (sizeOf (height c)) (getD b p 0))
-      (padded .held p (omega (arith, place-lt grows o c ho hc64)))
       ∙ lift-is grows rises (height c) (getD b p 0) side (omega arith)
 
   -- ---- one list of cells
@@ -192,16 +203,16 @@ module _ (grows : Bool) (s : List ℕ) (w : ℕ) (b e : List ℕ) (len : length 
     some-long : length some ≡ count
     some-long = length-take-le count cells (omega (arith, taken .few, taken .long))
 
-    finds : (j : ℕ) → j < count → foundBy grows rises b e x (getD some j 0)
-        ≡ foundBy grows rises b e x (getD cells j 0)
-    finds j h = ap (foundBy grows rises b e x) (getD-take count cells j 0 h)
+    finds : (j : ℕ) → j < count → foundBy grows rises b x (getD some j 0)
+        ≡ foundBy grows rises b x (getD cells j 0)
+    finds j h = ap (foundBy grows rises b x) (getD-take count cells j 0 h)
 
-    cells-to : (v0 v : ℕ) → Bound grows (atCells grows rises v0 b e x some (length some)) v → Bound grows v0 v
+    cells-to : (v0 v : ℕ) → Bound grows (atCells grows rises v0 b x some (length some)) v → Bound grows v0 v
         × ((c : ℕ) → c < wide → cellOn word c ≡ true → sideOf rises (height c) ≡ true → inRow c ≡ true
         → Bound grows (weighBy grows (height c) (value c)) v)
     unfolding atCells
     cells-to v0 v h =
-        let f = fold-to grows v0 (λ j. foundBy grows rises b e x (getD some j 0)) v (length some) h in (
+        let f = fold-to grows v0 (λ j. foundBy grows rises b x (getD some j 0)) v (length some) h in (
           f .0,
           λ c hc on side t.
               let k = taken .covered c hc (ap₂ _&&_ on side) in
@@ -214,10 +225,10 @@ module _ (grows : Bool) (s : List ℕ) (w : ℕ) (b e : List ℕ) (len : length 
     cells-from : (v0 v : ℕ) → v < 256 → Bound grows v0 v
         → ((c : ℕ) → c < wide → cellOn word c ≡ true → inRow c ≡ true
         → Bound grows (weighBy grows (height c) (value c)) v)
-        → Bound grows (atCells grows rises v0 b e x some (length some)) v
+        → Bound grows (atCells grows rises v0 b x some (length some)) v
     unfolding atCells
     cells-from v0 v hv start each =
-        fold-from grows v0 (λ j. foundBy grows rises b e x (getD some j 0)) v (length some) start
+        fold-from grows v0 (λ j. foundBy grows rises b x (getD some j 0)) v (length some) start
         (λ j h.
         let l : j < count = subst (λ n. j < n) some-long h in
         let f = taken .inside j l in
@@ -230,7 +241,7 @@ module _ (grows : Bool) (s : List ℕ) (w : ℕ) (b e : List ℕ) (len : length 
   module _ (m n : ℕ) (rising others : List ℕ) (up : Taken grows true word wide o hs first m rising)
       (down : Taken grows false word wide o hs first n others) where
     abbrev joined : ℕ → ℕ
-    joined v0 = bothAt grows v0 b e x (take m rising) (take n others)
+    joined v0 = bothAt grows v0 b x (take m rising) (take n others)
 
     pub line-to : (v0 v : ℕ) → Bound grows (joined v0) v → Bound grows v0 v
         × ((c : ℕ) → c < wide → cellOn word c ≡ true → inRow c ≡ true
@@ -238,7 +249,7 @@ module _ (grows : Bool) (s : List ℕ) (w : ℕ) (b e : List ℕ) (len : length 
     unfolding bothAt
     line-to v0 v h =
         let f = cells-to false n others down
-        (atCells grows true v0 b e x (take m rising) (length (take m rising))) v h in
+        (atCells grows true v0 b x (take m rising) (length (take m rising))) v h in
         let g = cells-to true m rising up v0 v (f .0) in
         (g .0, λ c hc on t. ⊎-elim (λ q. g .1 c hc on q t) (λ q. f .1 c hc on q t) (sides (height c)))
 
@@ -248,6 +259,6 @@ module _ (grows : Bool) (s : List ℕ) (w : ℕ) (b e : List ℕ) (len : length 
         → Bound grows (joined v0) v
     unfolding bothAt
     line-from v0 v hv start each =
-        cells-from false n others down (atCells grows true v0 b e x (take m rising) (length
+        cells-from false n others down (atCells grows true v0 b x (take m rising) (length
         (take m rising))) v hv
         (cells-from true m rising up v0 v hv start each) each

@@ -4,8 +4,6 @@ use Rattle.basics.specs.Settles.{Settles, SettlesBytes}
 use Rattle.basics.proofs.Settled.{settled}
 use Rattle.heightsigns.proofs.cells_both.Kinds as cells-both-kinds
 use Rattle.heightsigns.proofs.cells_both.Reads as cells-both
-use Rattle.heightsigns.proofs.ends_of.Kinds as ends-of-kinds
-use Rattle.heightsigns.proofs.ends_of.Reads as ends-of
 
 pub cells-both-settled : Settles 3 cells-both-kinds.ps cells-both-kinds.r cells-both.Learnt
 cells-both-settled κs a x y s t p q = λ i. record {
@@ -20,6 +18,3 @@ cells-both-rising-settled κs a x y s t p q = settled (p .1 .0) (q .1 .0)
 pub cells-both-others-settled : SettlesBytes 3 cells-both-kinds.ps cells-both-kinds.r cells-both.Learnt
     (λ κs e. e .1 .0 .now)
 cells-both-others-settled κs a x y s t p q = settled (p .1 .1) (q .1 .1)
-
-pub ends-of-settled : SettlesBytes 2 ends-of-kinds.ps ends-of-kinds.r ends-of.Learnt (λ κs e. e .1 .0 .now)
-ends-of-settled κs a x y s t p q = settled p q

@@ -1,14 +1,12 @@
-// The cells of one row of a weighted element, those that raise apart from those that do not,
-// and a row of values between what counts beyond the frame, with what holds its ends.
+// The cells of one row of a weighted element, those that raise apart from those that do not.
 use element::RowWord;
 use picture::Ping;
 ghost use mathlib.Core.Path.{_≡_};
 ghost use mathlib.Core.Bool.{cond, true, false};
 ghost use Prim.Native.Nat.{_+_, _*_, _≤_, _<_};
 ghost use lib.ListN.{length, getD};
-ghost use Rattle.basics.specs.Lists.{firsts};
 ghost use Rattle.element.specs.Descriptor.{mostCells};
-ghost use Rattle.heightsigns.specs.Steps.Sides.{risesOf, sideOf, sizeOf, endOf};
+ghost use Rattle.heightsigns.specs.Steps.Sides.{risesOf, sideOf, sizeOf};
 ghost use Rattle.heightsigns.specs.Steps.Taken.{takenOf, countOf, cellsOf};
 
 // A height is a byte: 1 to 127 raise, 0 changes nothing, 129 to 255 stand for -127 to -1.
@@ -88,7 +86,7 @@ pub fn cells_both(
     first: usize,
 ) -> Counts
     requires { ⌜ (o < mostCells) × ((wide ≤ mostCells) × (first ≤ mostCells * mostCells)) ⌝ }
-    requires { ⌜ (length (now rising) ≡ mostCells) × (length (now others) ≡ mostCells) ⌝ }
+    requires { ⌜ (wide ≤ length (now rising)) × (wide ≤ length (now others)) ⌝ }
     ensures counts { λ r. ⌜ (r .rising ≡ countOf true word (now (heights .entry)) first wide)
         × (r .others ≡ countOf false word (now (heights .entry)) first wide) ⌝ }
     ensures up { λ _. ⌜ now (rising .exit)
@@ -111,31 +109,5 @@ pub fn cells_both(
     Counts {
         rising: n,
         others: m,
-    }
-}
-
-// What holds a value at the end: 0 stays 0 in a dilation, 255 stays 255 in an erosion.
-fn end_of(grows: bool, v: u8) -> u8
-    ensures { λ r. ⌜ r ≡ endOf grows v ⌝ }
-{
-    if grows {
-        if v == 0 {
-            return 0;
-        }
-        return 255;
-    }
-    if v == 255 { 255 } else { 0 }
-}
-
-// The same of each value of b.
-pub fn ends_of(grows: bool, e: &mut [u8], b: &[u8])
-    requires { ⌜ length (now e) ≤ length (now b) ⌝ }
-    ensures { λ _. ⌜ now (e .exit)
-        ≡ firsts (λ i. endOf grows (getD (now (b .entry)) i 0)) (length (now (e .entry))) ⌝ }
-{
-    let mut i = 0;
-    while i < e.len() {
-        e[i] = end_of(grows, b[i]);
-        i += 1;
     }
 }

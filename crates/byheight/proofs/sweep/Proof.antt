@@ -1,11 +1,9 @@
 -- The picture takes the first bytes of the target:
 -- what lies past them stays.
 use Rattle.sourceparts.proofs.Bytes.{over-first}
-use lib.ListN.{length}
 use lib.Seq.{length-take-le}
 use Prim.Native.Nat.{_-_, _*_}
-use mathlib.Core.Path.{_≡_, sym}
-use native.Mathlib.Omega.{arith}
+use mathlib.Core.Path.{sym}
 use borrow.Author.Needs.{needs}
 use Rattle.byheight.proofs.sweep.Statement.{statement}
 use Rattle.byheight.proofs.sweep.Tie as tie

@@ -1,35 +1,35 @@
 -- Invariant: the first k pairs of blocks are joined, and t is as it was from there on. What falls: the rest.
--- A pair that shows no end is what it would be with the ends held: `free-more`.
+-- A pair that shows no end is what it would be with the ends held: `free-any`.
 use Rattle.weighblocks.proofs.Blocks.{rowAt}
-use Rattle.freeblocks.proofs.Blocks.{free-none, free-more}
+use Rattle.freeblocks.proofs.Blocks.{free-none, free-any}
 use Rattle.blocks.specs.Steps.Laid.{laid}
 use lib.ListN.{length}
 use Prim.Native.Nat.{_-_, _*_, _≤_}
-use mathlib.Core.Path.{_≡_, refl, ap, _∙_}
+use mathlib.Core.Path.{_≡_, _∙_}
 use native.Mathlib.Omega.{arith}
 use borrow.Author.Needs.{needs}
 use Rattle.freeblocks.proofs.join_free.Statement.{statement}
 use Rattle.freeblocks.proofs.join_free.Tie as tie
 
 abbrev Inv-loop : tie.InvT-loop
-Inv-loop grows t₀ n b e rising others limit k₀ t k =
-    (k ≤ n) × (length t ≡ length t₀) × (t ≡ laid 0 (128 * k) (rowAt grows b e rising others t₀) t₀)
+Inv-loop grows sure t₀ n b rising others limit k₀ t k =
+    (k ≤ n) × (length t ≡ length t₀) × (t ≡ laid 0 (128 * k) (rowAt grows b rising others t₀) t₀)
 
 abbrev μ-loop : tie.MeasureT-loop
-μ-loop grows t₀ n b e rising others limit k₀ t k = n - k
+μ-loop grows sure t₀ n b rising others limit k₀ t k = n - k
 
 loop-holds : tie.Need-loop-holds Inv-loop μ-loop
-loop-holds c = (search needs, search needs, free-none _ _ _ _ _ _)
+loop-holds c = (search needs, search needs, free-none _ _ _ _ _)
 
 join-cells-requires : tie.Need-join-cells-requires Inv-loop μ-loop
 join-cells-requires c κs =
-    let p = c .before .before .before .before .before .before .before .before .before .pre in
-    (omega (arith, p .0 .1, p .1 .0 .0), p .1 .1 .0 .0)
+    let p = c .before .before .before .before .before .before .before .before .pre in
+    (omega (arith, p .0 .1, p .1 .0 .0), p .1 .0 .1 .0)
 
 join-cells-requires-2 : tie.Need-join-cells-requires-2 Inv-loop μ-loop
 join-cells-requires-2 c κs =
-    let p = c .before .before .before .before .before .before .before .before .before .before .pre in
-    (omega (arith, p .0 .1, p .1 .0 .0), p .1 .1 .0 .1)
+    let p = c .before .before .before .before .before .before .before .before .before .pre in
+    (omega (arith, p .0 .1, p .1 .0 .0), p .1 .0 .1 .1)
 
 same-length : tie.Need-same-length Inv-loop μ-loop
 same-length c = c .before .before .before .before .before .before .before .loop .inv .1
@@ -41,16 +41,17 @@ returns c =
 loop-again : tie.Need-loop-again Inv-loop μ-loop
 loop-again c =
     let s = c .before .before .before .before .before .before .before .before .before .before .before
-    .before .before .before .before .before .before in
+    .before .before .before .before .before in
     let a = s .args in
     let l = c .before .before .before .before .before .before .before .before .before .before .before
     .loop in
     let p = c .before .before .put-wide in (
       search needs,
       p .kept .0 ∙ l .inv .1,
-      free-more (a .grows) (a .b .now) (a .e .now) (a .rising .now) (a .others .now) (a .t .now) (a .limit)
-          (s .pre .1 .0 .1) (s .pre .1 .1 .0 .0) (s .pre .1 .1 .1) (l .t) _ _ _ (p .last .0) (l .k) (omega
-          arith) (omega arith) (l .inv .2)
+      free-any (a .grows) (a .b .now) (a .rising .now) (a .others .now) (a .t .now) (a .sure) (a .limit) (a
+          .n)
+          (s .pre .1 .1 .0 .0) (s .pre .1 .1 .0 .1) (s .pre .1 .1 .1) (l .t) _ _ _ (p .last .0) (l .k)
+          (omega arith) (omega arith) (l .inv .2)
           (c .before .before .before .before .before .before .before .before .wide-at .ensures)
           (c .before .before .before .before .before .before .before .join-cells .ensures)
           (c .before .before .before .before .before .before .join-cells2 .ensures)

@@ -1,10 +1,10 @@
 -- Invariant: none of the first i values is nearer to the end than w. What falls: the values left.
 -- The lesser of the two is no further than either: `over-more`.
-use Prim.Native.Nat.{ℕ, _+_, _-_, _≤_, _<_, min}
-use mathlib.Core.Path.{_≡_, ap, _∙_}
+use Prim.Native.Nat.{ℕ, _-_, _≤_, _<_, min}
+use mathlib.Core.Path.{ap, _∙_}
 use native.Mathlib.Omega.{arith}
 use native.Mathlib.Nat.{not-suc-le-zero}
-use lib.ListN.{length, getD}
+use lib.ListN.{getD}
 use borrow.Author.Needs.{needs}
 use Rattle.freeblocks.specs.Steps.Plain.{turnedBy}
 use Rattle.freeblocks.proofs.Blocks.{over-more}

@@ -1,6 +1,5 @@
 -- Where no cell raises, any value is far enough; else where the one nearest to the end is.
 -- What `least_of` gives is no further than any value.
-use Prim.Native.Nat.{_≤_}
 use native.Mathlib.Omega.{arith}
 use borrow.Author.Needs.{needs}
 use borrow.Author.Tests.{ltb-false}

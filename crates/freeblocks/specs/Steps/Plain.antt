@@ -1,13 +1,13 @@
 -- Rows joined with what cells find where nothing holds a value at the end.
-use Prim.Native.Nat.{ℕ, _+_, _-_, _/_, _%_, _≤_, _<_, min}
+use Prim.Native.Nat.{ℕ, _+_, _-_, _*_, _/_, _%_, _≤_, _<_, min}
 use mathlib.Core.Path.{_≡_}
 use mathlib.Core.Bool.{Bool, true, false, not}
 use mathlib.Core.List.{List}
+use lib.Dec.{leb}
 use lib.ListN.{getD, length}
 use Rattle.basics.specs.Lists.{firsts}
 use Rattle.morphology.specs.Operations.{fold}
 use Rattle.rows.specs.Steps.Fold.{joinBy}
-use Rattle.heightsigns.specs.Steps.Sides.{endOf}
 
 abbrev pub plainBy : Bool → ℕ → ℕ → ℕ
 plainBy true g v = min 255 (v + g)
@@ -41,9 +41,16 @@ turnedBy false v = 255 - v
 abbrev pub Far : Bool → List ℕ → ℕ → Type 0
 Far grows c limit = (m : ℕ) → m < 128 → limit ≤ turnedBy grows (getD c m 0)
 
--- e has what holds the ends of b
-abbrev pub Ends : Bool → List ℕ → List ℕ → Type 0
-Ends grows b e = (q : ℕ) → q < 1152 → getD e q 0 ≡ endOf grows (getD b q 0)
+-- no value of n pairs of blocks is nearer to that end than 128, above the size of any height that raises
+abbrev pub Sure : Bool → ℕ → List ℕ → Type 0
+Sure grows n t = (m : ℕ) → m < 128 * n → 128 ≤ turnedBy grows (getD t m 0)
+
+-- how near the first n values come to it, and whether n pairs of blocks, all that t has, are sure
+unfoldable pub leastOf : Bool → List ℕ → ℕ → ℕ
+leastOf grows t n = fold min 255 (λ i. turnedBy grows (getD t i 0)) n
+
+unfoldable pub sureOf : Bool → List ℕ → Bool
+sureOf grows t = leb 128 (leastOf grows t (128 * (length t / 128)))
 
 -- the size of each cell is below the limit
 abbrev pub Under : List ℕ → ℕ → Type 0

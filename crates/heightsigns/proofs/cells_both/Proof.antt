@@ -5,7 +5,7 @@ use Rattle.heightsigns.specs.Steps.Taken.{takenOf, entryOf, countOf, cel
 use lib.ListN.{length, getD, length-set}
 use Prim.Native.Nat.{ℕ, _+_, _-_, _*_, _≤_, _<_}
 use mathlib.Core.Bool.{Bool, true, false, cond}
-use mathlib.Core.Path.{_≡_, refl, sym, ap, ap₂, _∙_}
+use mathlib.Core.Path.{_≡_, refl, ap, ap₂, _∙_}
 use native.Mathlib.Omega.{arith}
 use borrow.Author.Needs.{needs}
 use Rattle.heightsigns.proofs.cells_both.Statement.{statement}
@@ -13,7 +13,7 @@ use Rattle.heightsigns.proofs.cells_both.Tie as tie
 
 abbrev Inv-loop : tie.InvT-loop
 Inv-loop rising₀ others₀ grows word wide o heights first n₀ m₀ c₀ rising others n m c =
-    (c ≤ wide) × ((length rising ≡ 64) × (length others ≡ 64))
+    (c ≤ wide) × ((length rising ≡ length rising₀) × (length others ≡ length others₀))
     × ((n ≡ countOf true word heights first c) × (m ≡ countOf false word heights first c))
     × ((rising ≡ cellsOf grows true word o heights first rising₀ c)
     × (others ≡ cellsOf grows false word o heights first others₀ c))
@@ -23,7 +23,7 @@ abbrev μ-loop : tie.MeasureT-loop
 
 loop-holds : tie.Need-loop-holds Inv-loop μ-loop
 unfolding countOf cellsOf
-loop-holds c = (search needs, c .before .before .before .pre .1, (refl, refl), (refl, refl))
+loop-holds c = (search needs, (refl, refl), (refl, refl), (refl, refl))
 
 -- as many as are taken are at most c, and so below the width while a cell is left
 few : (s : tie.Start Inv-loop μ-loop) (rises : Bool) (n c : ℕ) → c ≤ s .args .wide
@@ -31,7 +31,7 @@ few : (s : tie.Start Inv-loop μ-loop) (rises : Bool) (n c : ℕ) → c ≤ s .a
 few s rises n c h e =
     let a = s .args in
     let t = cells-taken (a .grows) rises (a .word) (a .o) (a .heights .now) (a .first) (a .rising .now)
-    (s .pre .1 .0) c (omega (arith, s .pre .0 .1 .0)) in
+    c (omega (arith, s .pre .1 .0)) in
     omega (arith, t .few)
 
 one-at-most : (b : Bool) → cond b 1 0 ≤ 1
@@ -42,17 +42,24 @@ entry-requires : tie.Need-entry-requires Inv-loop μ-loop
 entry-requires c κs = (c .before .cell-place .ensures .1, c .size-of .ensures .1)
 
 -- where a cell's number is stored, there is room for it
-up : (c : tie.After-entry Inv-loop μ-loop) → c .before .before .before .before .before .loop .n < 64
+up : (c : tie.After-entry Inv-loop μ-loop) → c .before .before .before .before .before .loop .n
+    < c .before .before .before .before .before .before .before .before .before .args .wide
 up c =
     let l = c .before .before .before .before .before .loop in
     let s = c .before .before .before .before .before .before .before .before .before in
-    omega (arith, few s true (l .n) (l .c) (l .inv .0) (l .inv .2 .0), s .pre .0 .1 .0)
+    omega (arith, few s true (l .n) (l .c) (l .inv .0) (l .inv .2 .0))
 
-down : (c : tie.After-entry Inv-loop μ-loop) → c .before .before .before .before .before .loop .m < 64
+down : (c : tie.After-entry Inv-loop μ-loop) → c .before .before .before .before .before .loop .m
+    < c .before .before .before .before .before .before .before .before .before .args .wide
 down c =
     let l = c .before .before .before .before .before .loop in
     let s = c .before .before .before .before .before .before .before .before .before in
-    omega (arith, few s false (l .m) (l .c) (l .inv .0) (l .inv .2 .1), s .pre .0 .1 .0)
+    omega (arith, few s false (l .m) (l .c) (l .inv .0) (l .inv .2 .1))
+
+rooms : (c : tie.After-entry Inv-loop μ-loop)
+    → let a = c .before .before .before .before .before .before .before .before .before .args in
+    (a .wide ≤ length (a .rising .now)) × (a .wide ≤ length (a .others .now))
+rooms c = c .before .before .before .before .before .before .before .before .before .pre .1
 
 add-n : tie.Need-add-n Inv-loop μ-loop
 add-n c =
@@ -92,23 +99,23 @@ loop-again c =
       (simp length-set (l .inv .1 .0), simp length-set (l .inv .1 .1)),
       (
         count-more (a .grows) true (a .word) (a .o) (a .heights .now) (a .first) (a .rising .now)
-            (s .pre .1 .0) (l .c) (l .n) _ _ (l .inv .2 .0) g (c .before .takes .ensures),
+            (l .c) (l .n) _ _ (l .inv .2 .0) g (c .before .takes .ensures),
         count-more (a .grows) false (a .word) (a .o) (a .heights .now) (a .first) (a .others .now)
-            (s .pre .1 .1) (l .c) (l .m) _ _ (l .inv .2 .1) g (c .takes2 .ensures),
+            (l .c) (l .m) _ _ (l .inv .2 .1) g (c .takes2 .ensures),
       ),
       (
         cells-more (a .grows) true (a .word) (a .o) (a .heights .now) (a .first) (a .rising .now)
-            (s .pre .1 .0) (l .c) (l .n) _ (l .rising) (l .inv .2 .0) (l .inv .3 .0) k,
+            (l .c) (l .n) _ (l .rising) (l .inv .2 .0) (l .inv .3 .0) k,
         cells-more (a .grows) false (a .word) (a .o) (a .heights .now) (a .first) (a .others .now)
-            (s .pre .1 .1) (l .c) (l .m) _ (l .others) (l .inv .2 .1) (l .inv .3 .1) k,
+            (l .c) (l .m) _ (l .others) (l .inv .2 .1) (l .inv .3 .1) k,
       ),
     )
 
 same-length : tie.Need-same-length Inv-loop μ-loop
-same-length c = c .before .loop .inv .1 .0 ∙ sym (c .before .before .before .before .before .pre .1 .0)
+same-length c = c .before .loop .inv .1 .0
 
 same-length-2 : tie.Need-same-length-2 Inv-loop μ-loop
-same-length-2 c = c .before .loop .inv .1 .1 ∙ sym (c .before .before .before .before .before .pre .1 .1)
+same-length-2 c = c .before .loop .inv .1 .1
 
 returns : tie.Need-returns Inv-loop μ-loop
 returns c =
@@ -139,10 +146,10 @@ cells-both-spec =
     (λ c κs. search needs)
     (λ c κs. search needs)
     entry-requires
-    (λ c. omega (arith, up c))
-    (λ c. omega (arith, up c, c .before .before .before .before .before .loop .inv .1 .0))
-    (λ c. omega (arith, down c))
-    (λ c. omega (arith, down c, c .before .before .before .before .before .loop .inv .1 .1))
+    (λ c. omega (arith, up c, rooms c .0, c .before .before .before .before .before .loop .inv .1 .0))
+    (λ c. omega (arith, up c, rooms c .0, c .before .before .before .before .before .loop .inv .1 .0))
+    (λ c. omega (arith, down c, rooms c .1, c .before .before .before .before .before .loop .inv .1 .1))
+    (λ c. omega (arith, down c, rooms c .1, c .before .before .before .before .before .loop .inv .1 .1))
     (λ c. search needs)
     (λ c κs. search needs)
     add-n

@@ -1,4 +1,4 @@
--- A height taken apart: whether it raises, and its size; and what holds a value at the end.
+-- A height taken apart: whether it raises, and its size.
 use Prim.Native.Nat.{ℕ, _-_}
 use mathlib.Core.Bool.{Bool, true, false, cond, not}
 use lib.Dec.{eqb, ltb}
@@ -11,7 +11,3 @@ sideOf rises g = cond rises (risesOf g) (not (risesOf g))
 
 abbrev pub sizeOf : ℕ → ℕ
 sizeOf g = cond (ltb g 128) g (256 - g)
-
-abbrev pub endOf : Bool → ℕ → ℕ
-endOf true v = cond (eqb v 0) 0 255
-endOf false v = cond (eqb v 255) 255 0

@@ -31,7 +31,7 @@ cellsOf grows rises word o hs first cells (suc c) =
 pub record Taken (grows rises : Bool) (word wide o : ℕ) (hs : List ℕ) (first count : ℕ) (cells : List ℕ)
     : Type 0 where
   pub few : count ≤ wide
-  pub long : length cells ≡ 64
+  pub long : wide ≤ length cells
   pub inside : (j : ℕ) → j < count
       → (c : ℕ) × ((c < wide) × ((takenOf word c rises (getD hs (first + c) 0) ≡ true)
       × (getD cells j 0 ≡ entryOf grows o c (getD hs (first + c) 0))))

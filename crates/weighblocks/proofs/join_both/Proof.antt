@@ -7,8 +7,8 @@ use Rattle.weighblocks.proofs.join_both.Tie as tie
 
 returns : tie.Need-returns
 returns c =
-    let a = c .before .before .before .before .before .before .args in
-    both-joined (a .grows) (a .b .now) (a .e .now) (a .rising .now) (a .others .now) (a .c) _ _ (a .i)
+    let a = c .before .before .before .before .before .args in
+    both-joined (a .grows) (a .b .now) (a .rising .now) (a .others .now) (a .c) _ _ (a .i)
     (c .before .join-cells .ensures) (c .join-cells2 .ensures)
 
 pub join-both-spec : {M : Type 1} → statement M

@@ -10,45 +10,45 @@ use Rattle.weighblocks.proofs.join_cells.Statement.{statement}
 use Rattle.weighblocks.proofs.join_cells.Tie as tie
 
 abbrev Inv-loop : tie.InvT-loop
-Inv-loop grows rises b e i cells acc₀ j₀ acc j =
-    (j ≤ length cells) × (length acc ≡ 64) × (acc ≡ cellsAt grows rises acc₀ b e i cells j)
+Inv-loop grows rises b i cells acc₀ j₀ acc j =
+    (j ≤ length cells) × (length acc ≡ 64) × (acc ≡ cellsAt grows rises acc₀ b i cells j)
 
 abbrev μ-loop : tie.MeasureT-loop
-μ-loop grows rises b e i cells acc₀ j₀ acc j = length cells - j
+μ-loop grows rises b i cells acc₀ j₀ acc j = length cells - j
 
 loop-holds : tie.Need-loop-holds Inv-loop μ-loop
-loop-holds c = (search needs, search needs, cells-none _ _ _ _ _ _ _ (search needs))
+loop-holds c = (search needs, search needs, cells-none _ _ _ _ _ _ (search needs))
 
 add-join-cell : tie.Need-add-join-cell Inv-loop μ-loop
 add-join-cell c =
-    let f = c .before .before .before .before .before .before .before .pre .1 .1
+    let f = c .before .before .before .before .before .before .pre .1
     (c .before .before .before .loop .j) (omega arith) in
     omega (arith, f, c .place-of .ensures)
 
 join-cell-requires : tie.Need-join-cell-requires Inv-loop μ-loop
 join-cell-requires c κs =
-    let f = c .before .before .before .before .before .before .before .before .pre .1 .1
+    let f = c .before .before .before .before .before .before .before .pre .1
     (c .before .before .before .before .loop .j) (omega arith) in
-    (omega (arith, f, c .before .place-of .ensures), omega (arith, f, c .before .place-of .ensures))
+    omega (arith, f, c .before .place-of .ensures)
 
 loop-again : tie.Need-loop-again Inv-loop μ-loop
 loop-again c =
     let l = c .before .before .before .before .before .loop in
-    let a = c .before .before .before .before .before .before .before .before .before .args in
-    let e = cells-more (a .grows) (a .rises) (a .c) (a .b .now) (a .e .now) (a .i) (a .cells .now) (l .acc)
+    let a = c .before .before .before .before .before .before .before .before .args in
+    let e = cells-more (a .grows) (a .rises) (a .c) (a .b .now) (a .i) (a .cells .now) (l .acc)
     (c .join-cell .result) _ _ (l .j) (l .inv .2) (c .before .before .place-of .ensures)
     (c .before .size-of .ensures)
     (c .join-cell .ensures) in (
       search needs,
-      cells-length (a .grows) (a .rises) (a .c) (a .b .now) (a .e .now) (a .i) (a .cells .now) _ (l .j + 1) e,
+      cells-length (a .grows) (a .rises) (a .c) (a .b .now) (a .i) (a .cells .now) _ (l .j + 1) e,
       e,
     )
 
 returns : tie.Need-returns Inv-loop μ-loop
 returns c =
-    let a = c .before .before .before .before .before .args in
+    let a = c .before .before .before .before .args in
     let e : c .before .loop .j ≡ length (a .cells .now) = omega arith in
-    c .before .loop .inv .2 ∙ ap (cellsAt (a .grows) (a .rises) (a .c) (a .b .now) (a .e .now) (a .i)
+    c .before .loop .inv .2 ∙ ap (cellsAt (a .grows) (a .rises) (a .c) (a .b .now) (a .i)
     (a .cells .now)) e
 
 pub join-cells-spec : {M : Type 1} → statement M

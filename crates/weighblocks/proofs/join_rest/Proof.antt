@@ -13,8 +13,8 @@ use Rattle.weighblocks.proofs.join_rest.Tie as tie
 
 returns : tie.Need-returns
 returns c =
-    let a = c .before .before .before .before .before .before .args in
-    let f : ℕ → ℕ = λ m. rowAt (a .grows) (a .b .now) (a .e .now) (a .rising .now) (a .others .now)
+    let a = c .before .before .before .before .before .args in
+    let f : ℕ → ℕ = λ m. rowAt (a .grows) (a .b .now) (a .rising .now) (a .others .now)
     (a .t .now)
     (a .i + m) in
     let e : length (a .t .now) - a .i ≡ 0 = omega arith in
@@ -22,15 +22,15 @@ returns c =
 
 join-both-requires : tie.Need-join-both-requires
 join-both-requires c κs =
-    let p = c .before .before .before .before .before .before .before .before .pre in
+    let p = c .before .before .before .before .before .before .before .pre in
     let l = p .1 .0 (omega arith) in
-    ((omega (arith, l, p .1 .1 .0 .0), omega (arith, l, p .1 .1 .0 .1)), p .1 .1 .1)
+    (omega (arith, l, p .1 .1 .0), p .1 .1 .1)
 
 returns-2 : tie.Need-returns-2
 returns-2 c =
     let a = c .before .before .before .before .before .before .before .before .before .before .before
-    .before .before .args in
-    rest-joined (a .grows) (a .b .now) (a .e .now) (a .rising .now) (a .others .now) (a .t .now) _ _ _
+    .before .args in
+    rest-joined (a .grows) (a .b .now) (a .rising .now) (a .others .now) (a .t .now) _ _ _
     (a .i) _
     (omega arith) (omega arith) (c .before .before .before .before .before .some-at .ensures)
     (c .before .before .before .before .join-both .ensures) (c .before .before .put-some .ensures)

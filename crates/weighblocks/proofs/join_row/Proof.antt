@@ -2,7 +2,7 @@
 -- `row-joined` puts them together.
 use Rattle.weighblocks.proofs.Blocks.{row-joined}
 use lib.ListN.{length}
-use Prim.Native.Nat.{_+_, _-_, _*_, _/_, _≤_}
+use Prim.Native.Nat.{_-_}
 use mathlib.Core.Path.{_≡_}
 use native.Mathlib.Omega.{arith}
 use borrow.Author.Needs.{needs}
@@ -11,7 +11,7 @@ use Rattle.weighblocks.proofs.join_row.Tie as tie
 
 join-rest-requires : tie.Need-join-rest-requires
 join-rest-requires c κs =
-    let s = c .before .before .before .before .before .before .before .before .before .before in
+    let s = c .before .before .before .before .before .before .before .before .before in
     let k : length (c .before .before .before .join-blocks .last .1 .0) ≡ length (s .args .t .now) =
     search needs in (
       (omega (arith, k), omega (arith, k)),
@@ -24,8 +24,8 @@ join-rest-requires c κs =
 returns : tie.Need-returns
 returns c =
     let a = c .before .before .before .before .before .before .before .before .before .before .before
-    .before .before .args in
-    row-joined (a .grows) (a .b .now) (a .e .now) (a .rising .now) (a .others .now) (a .t .now) _ _ _
+    .before .args in
+    row-joined (a .grows) (a .b .now) (a .rising .now) (a .others .now) (a .t .now) _ _ _
     (omega arith) (c .before .before .before .before .before .before .join-blocks .ensures)
     (c .before .before .join-rest .ensures)
 

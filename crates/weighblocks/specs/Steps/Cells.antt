@@ -11,28 +11,27 @@ use Rattle.blocks.specs.Steps.Laid.{laid}
 use Rattle.weighblocks.specs.Steps.Lift.{liftBy}
 
 -- a block with what one cell finds from the place `at` on
-unfoldable pub cellBlock : Bool → Bool → List ℕ → List ℕ → List ℕ → ℕ → ℕ → List ℕ
-cellBlock grows rises a b e at g =
-    firsts
-    (λ i. joinBy grows (getD a i 0) (liftBy grows rises g (getD b (at + i) 0) (getD e (at + i) 0))) 64
+unfoldable pub cellBlock : Bool → Bool → List ℕ → List ℕ → ℕ → ℕ → List ℕ
+cellBlock grows rises a b at g =
+    firsts (λ i. joinBy grows (getD a i 0) (liftBy grows rises g (getD b (at + i) 0))) 64
 
 -- what the cell k finds m past its place
-abbrev pub foundBy : Bool → Bool → List ℕ → List ℕ → ℕ → ℕ → ℕ
-foundBy grows rises b e m k = liftBy grows rises (k % 256) (getD b (m + k / 256) 0) (getD e (m + k / 256) 0)
+abbrev pub foundBy : Bool → Bool → List ℕ → ℕ → ℕ → ℕ
+foundBy grows rises b m k = liftBy grows rises (k % 256) (getD b (m + k / 256) 0)
 
 -- the value v, and what each of the first n cells finds
-unfoldable pub atCells : Bool → Bool → ℕ → List ℕ → List ℕ → ℕ → List ℕ → ℕ → ℕ
-atCells grows rises v b e m cells n =
-    fold (joinBy grows) v (λ j. foundBy grows rises b e m (getD cells j 0)) n
+unfoldable pub atCells : Bool → Bool → ℕ → List ℕ → ℕ → List ℕ → ℕ → ℕ
+atCells grows rises v b m cells n =
+    fold (joinBy grows) v (λ j. foundBy grows rises b m (getD cells j 0)) n
 
 -- the cells that raise, then those that do not
-unfoldable pub bothAt : Bool → ℕ → List ℕ → List ℕ → ℕ → List ℕ → List ℕ → ℕ
-bothAt grows v b e m rising others =
-    atCells grows false (atCells grows true v b e m rising (length rising)) b e m others (length others)
+unfoldable pub bothAt : Bool → ℕ → List ℕ → ℕ → List ℕ → List ℕ → ℕ
+bothAt grows v b m rising others =
+    atCells grows false (atCells grows true v b m rising (length rising)) b m others (length others)
 
-unfoldable pub weighedRow : Bool → List ℕ → List ℕ → List ℕ → List ℕ → List ℕ → List ℕ
-weighedRow grows b e rising others t =
-    laid 0 (length t) (λ m. bothAt grows (getD t m 0) b e m rising others) t
+unfoldable pub weighedRow : Bool → List ℕ → List ℕ → List ℕ → List ℕ → List ℕ
+weighedRow grows b rising others t =
+    laid 0 (length t) (λ m. bothAt grows (getD t m 0) b m rising others) t
 
 -- no place lies more than 127 past the column
 abbrev pub Near : List ℕ → Type 0
