@@ -108,10 +108,10 @@ pub fn put_some(t: &mut [u8], at: usize, n: usize, c: [u8; blocks::BLOCK])
     requires { ⌜ (n ≤ 64) × (at + n ≤ length (now t)) ⌝ }
     ensures { λ _. ⌜ now (t .exit) ≡ laid at n (λ i. getD c i 0) (now (t .entry)) ⌝ }
 {
-    let mut i = 0;
-    while i < n {
-        t[at + i] = c[i];
-        i += 1;
+    let mut m = 0;
+    while m < n {
+        t[at + m] = c[m];
+        m += 1;
     }
 }
 
