@@ -21,7 +21,7 @@
  *    3,968  qik_weighted_erode qik_weighted_dilate qik_weighted_open qik_weighted_close
  *    4,864  qik_check_chain
  *    5,056  qik_chain_erode1 qik_chain_dilate1 qik_chain_erode8 qik_chain_dilate8
- *    7,648  qik_find_chain
+ *    7,680  qik_find_chain
  *    1,088  qik_reconstruct_cross qik_reconstruct_square qik_size_spectrum
  *   82,480  qik_nesting
  *      256  qik_ech_read qik_ech_write qik_pbm_read qik_pgm_read qik_pbm_write qik_pgm_write

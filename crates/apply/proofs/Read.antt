@@ -15,6 +15,7 @@ use Rattle.picture.specs.Frame.{Frame, rowBytes, top, frame}
 use Rattle.picture.specs.Bytes.{Picture, written}
 use Rattle.picture.proofs.Points.{written-same}
 use Rattle.element.specs.declared.Element.{Element}
+use Rattle.element.specs.declared.Outline.{Outline}
 use Rattle.element.specs.Descriptor.{mostCells, wideOf, highOf, cellsEnd}
 use Rattle.element.specs.Descriptor.{heightsOf, cellsMade, shapeIn, weightedIn}
 use Rattle.element.specs.Record.{elementOf, nothing, shapeOf, weightedOf}
@@ -29,6 +30,11 @@ use Rattle.byterow.specs.Steps.Row.{heightenedBy}
 use Rattle.apply.specs.Steps.Applied.{Fitting, flatBy, flatTwiceBy}
 use Rattle.apply.specs.Steps.Applied.{weightedBy, weightedTwiceBy}
 use Rattle.apply.proofs.Twice.{swept-alike}
+
+-- the outline and the row words, read by themselves, make up the descriptor's record
+pub parts-read : (d rows : List ℕ) (o : Outline) → o ≡ elementOf d .outline → rows ≡ elementOf d .rows
+    → _≡_ {A = Element} (record { outline = o; rows = rows }) (elementOf d)
+parts-read d rows o eo er = λ i. record { outline = eo i; rows = er i }
 
 module _ (d : List ℕ) (m : cellsMade d ≡ true) where
   words-length : length (elementOf d .rows) ≡ mostCells

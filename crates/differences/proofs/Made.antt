@@ -30,11 +30,6 @@ use Rattle.differences.specs.declared.Which.{Which}
 use Rattle.differences.specs.declared.Which.the-variants.{White, Black, Gradient}
 use Rattle.differences.specs.Steps.Which.{madeBy, middleBy}
 
--- the record that its outline and its row words make up is the descriptor's
-pub read : (d rows : List ℕ) (o : Outline) → o ≡ elementOf d .outline → rows ≡ elementOf d .rows
-    → _≡_ {A = Element} (record { outline = o; rows = rows }) (elementOf d)
-read d rows o eo er = λ i. record { outline = eo i; rows = er i }
-
 -- a picture written over one that was written
 written-over : (depth : Depth) (A C : Picture) (w h : ℕ) (t : List ℕ)
     → written depth A w h (written depth C w h t) ≡ written depth A w h t

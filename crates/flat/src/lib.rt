@@ -36,10 +36,10 @@ fn run_bits(
     let made = descriptor::well_made(&element[..]);
     let no = judge::element_refusal(Depth::OneBit, w, h, &source[..], made, target.len());
     if answer::is_done(no) {
-        let e = reader::element_at(&element[..]);
+        let o = reader::outline_at(&element[..]);
+        let words = reader::rows_at(&element[..]);
         let grows = rows::is_growing(way);
-        let o = e.outline;
-        apply::flat_bits(grows, &source[..], target, w, h, o, &e.rows);
+        apply::flat_bits(grows, &source[..], target, w, h, o, &words);
         return no;
     }
     no
@@ -66,10 +66,10 @@ fn run_bytes(
     let made = descriptor::well_made(&element[..]);
     let no = judge::element_refusal(Depth::EightBit, w, h, &source[..], made, target.len());
     if answer::is_done(no) {
-        let e = reader::element_at(&element[..]);
+        let o = reader::outline_at(&element[..]);
+        let words = reader::rows_at(&element[..]);
         let grows = rows::is_growing(way);
-        let o = e.outline;
-        apply::flat_bytes(grows, &source[..], target, w, h, o, &e.rows);
+        apply::flat_bytes(grows, &source[..], target, w, h, o, &words);
         return no;
     }
     no
@@ -103,10 +103,10 @@ fn twice_bits(
     let made = descriptor::well_made(&element[..]);
     let no = judge::element_refusal(Depth::OneBit, w, h, &source[..], made, room);
     if answer::is_done(no) {
-        let e = reader::element_at(&element[..]);
+        let o = reader::outline_at(&element[..]);
+        let words = reader::rows_at(&element[..]);
         let grows = rows::is_growing(first);
-        let o = e.outline;
-        apply::bits_twice(grows, &source[..], target, scratch, w, h, o, &e.rows);
+        apply::bits_twice(grows, &source[..], target, scratch, w, h, o, &words);
         return no;
     }
     no
@@ -140,10 +140,10 @@ fn twice_bytes(
     let made = descriptor::well_made(&element[..]);
     let no = judge::element_refusal(Depth::EightBit, w, h, &source[..], made, room);
     if answer::is_done(no) {
-        let e = reader::element_at(&element[..]);
+        let o = reader::outline_at(&element[..]);
+        let words = reader::rows_at(&element[..]);
         let grows = rows::is_growing(first);
-        let o = e.outline;
-        apply::bytes_twice(grows, &source[..], target, scratch, w, h, o, &e.rows);
+        apply::bytes_twice(grows, &source[..], target, scratch, w, h, o, &words);
         return no;
     }
     no

@@ -28,6 +28,28 @@ use Rattle.host.proofs.qik_weighted_open.Kinds as qik-weighted-open-kin
 use Rattle.host.proofs.qik_weighted_open.Reads as qik-weighted-open
 use Rattle.host.proofs.qik_weighted_close.Kinds as qik-weighted-close-kinds
 use Rattle.host.proofs.qik_weighted_close.Reads as qik-weighted-close
+use Rattle.host.proofs.qik_white_tophat1.Kinds as qik-white-tophat1-kinds
+use Rattle.host.proofs.qik_white_tophat1.Reads as qik-white-tophat1
+use Rattle.host.proofs.qik_white_tophat8.Kinds as qik-white-tophat8-kinds
+use Rattle.host.proofs.qik_white_tophat8.Reads as qik-white-tophat8
+use Rattle.host.proofs.qik_black_tophat1.Kinds as qik-black-tophat1-kinds
+use Rattle.host.proofs.qik_black_tophat1.Reads as qik-black-tophat1
+use Rattle.host.proofs.qik_black_tophat8.Kinds as qik-black-tophat8-kinds
+use Rattle.host.proofs.qik_black_tophat8.Reads as qik-black-tophat8
+use Rattle.host.proofs.qik_gradient1.Kinds as qik-gradient1-kinds
+use Rattle.host.proofs.qik_gradient1.Reads as qik-gradient1
+use Rattle.host.proofs.qik_gradient8.Kinds as qik-gradient8-kinds
+use Rattle.host.proofs.qik_gradient8.Reads as qik-gradient8
+use Rattle.host.proofs.qik_check_chain.Kinds as qik-check-chain-kinds
+use Rattle.host.proofs.qik_check_chain.Reads as qik-check-chain
+use Rattle.host.proofs.qik_chain_erode1.Kinds as qik-chain-erode1-kinds
+use Rattle.host.proofs.qik_chain_erode1.Reads as qik-chain-erode1
+use Rattle.host.proofs.qik_chain_erode8.Kinds as qik-chain-erode8-kinds
+use Rattle.host.proofs.qik_chain_erode8.Reads as qik-chain-erode8
+use Rattle.host.proofs.qik_chain_dilate1.Kinds as qik-chain-dilate1-kinds
+use Rattle.host.proofs.qik_chain_dilate1.Reads as qik-chain-dilate1
+use Rattle.host.proofs.qik_chain_dilate8.Kinds as qik-chain-dilate8-kinds
+use Rattle.host.proofs.qik_chain_dilate8.Reads as qik-chain-dilate8
 
 pub qik-erode1-settled : Settles 3 qik-erode1-kinds.ps qik-erode1-kinds.r qik-erode1.Learnt
 qik-erode1-settled κs a x y s t p q = settled (p .0) (q .0)
@@ -148,3 +170,125 @@ qik-weighted-close-settled-target κs a x y s t p q = settled (p .1 .0) (q .1 .0
 pub qik-weighted-close-settled-scratch : SettlesBytes 4 qik-weighted-close-kinds.ps
     qik-weighted-close-kinds.r qik-weighted-close.Learnt (λ κs e. e .1 .1 .1 .1 .1 .0 .now)
 qik-weighted-close-settled-scratch κs a x y s t p q = settled (p .1 .1) (q .1 .1)
+
+pub qik-white-tophat1-settled : Settles 4 qik-white-tophat1-kinds.ps qik-white-tophat1-kinds.r
+    qik-white-tophat1.Learnt
+qik-white-tophat1-settled κs a x y s t p q = settled (p .0) (q .0)
+
+pub qik-white-tophat1-settled-target : SettlesBytes 4 qik-white-tophat1-kinds.ps
+    qik-white-tophat1-kinds.r qik-white-tophat1.Learnt (λ κs e. e .1 .1 .1 .1 .0 .now)
+qik-white-tophat1-settled-target κs a x y s t p q = settled (p .1 .0) (q .1 .0)
+
+pub qik-white-tophat1-settled-scratch : SettlesBytes 4 qik-white-tophat1-kinds.ps
+    qik-white-tophat1-kinds.r qik-white-tophat1.Learnt (λ κs e. e .1 .1 .1 .1 .1 .0 .now)
+qik-white-tophat1-settled-scratch κs a x y s t p q = settled (p .1 .1) (q .1 .1)
+
+pub qik-white-tophat8-settled : Settles 4 qik-white-tophat8-kinds.ps qik-white-tophat8-kinds.r
+    qik-white-tophat8.Learnt
+qik-white-tophat8-settled κs a x y s t p q = settled (p .0) (q .0)
+
+pub qik-white-tophat8-settled-target : SettlesBytes 4 qik-white-tophat8-kinds.ps
+    qik-white-tophat8-kinds.r qik-white-tophat8.Learnt (λ κs e. e .1 .1 .1 .1 .0 .now)
+qik-white-tophat8-settled-target κs a x y s t p q = settled (p .1 .0) (q .1 .0)
+
+pub qik-white-tophat8-settled-scratch : SettlesBytes 4 qik-white-tophat8-kinds.ps
+    qik-white-tophat8-kinds.r qik-white-tophat8.Learnt (λ κs e. e .1 .1 .1 .1 .1 .0 .now)
+qik-white-tophat8-settled-scratch κs a x y s t p q = settled (p .1 .1) (q .1 .1)
+
+pub qik-black-tophat1-settled : Settles 4 qik-black-tophat1-kinds.ps qik-black-tophat1-kinds.r
+    qik-black-tophat1.Learnt
+qik-black-tophat1-settled κs a x y s t p q = settled (p .0) (q .0)
+
+pub qik-black-tophat1-settled-target : SettlesBytes 4 qik-black-tophat1-kinds.ps
+    qik-black-tophat1-kinds.r qik-black-tophat1.Learnt (λ κs e. e .1 .1 .1 .1 .0 .now)
+qik-black-tophat1-settled-target κs a x y s t p q = settled (p .1 .0) (q .1 .0)
+
+pub qik-black-tophat1-settled-scratch : SettlesBytes 4 qik-black-tophat1-kinds.ps
+    qik-black-tophat1-kinds.r qik-black-tophat1.Learnt (λ κs e. e .1 .1 .1 .1 .1 .0 .now)
+qik-black-tophat1-settled-scratch κs a x y s t p q = settled (p .1 .1) (q .1 .1)
+
+pub qik-black-tophat8-settled : Settles 4 qik-black-tophat8-kinds.ps qik-black-tophat8-kinds.r
+    qik-black-tophat8.Learnt
+qik-black-tophat8-settled κs a x y s t p q = settled (p .0) (q .0)
+
+pub qik-black-tophat8-settled-target : SettlesBytes 4 qik-black-tophat8-kinds.ps
+    qik-black-tophat8-kinds.r qik-black-tophat8.Learnt (λ κs e. e .1 .1 .1 .1 .0 .now)
+qik-black-tophat8-settled-target κs a x y s t p q = settled (p .1 .0) (q .1 .0)
+
+pub qik-black-tophat8-settled-scratch : SettlesBytes 4 qik-black-tophat8-kinds.ps
+    qik-black-tophat8-kinds.r qik-black-tophat8.Learnt (λ κs e. e .1 .1 .1 .1 .1 .0 .now)
+qik-black-tophat8-settled-scratch κs a x y s t p q = settled (p .1 .1) (q .1 .1)
+
+pub qik-gradient1-settled : Settles 4 qik-gradient1-kinds.ps qik-gradient1-kinds.r qik-gradient1.Learnt
+qik-gradient1-settled κs a x y s t p q = settled (p .0) (q .0)
+
+pub qik-gradient1-settled-target : SettlesBytes 4 qik-gradient1-kinds.ps
+    qik-gradient1-kinds.r qik-gradient1.Learnt (λ κs e. e .1 .1 .1 .1 .0 .now)
+qik-gradient1-settled-target κs a x y s t p q = settled (p .1 .0) (q .1 .0)
+
+pub qik-gradient1-settled-scratch : SettlesBytes 4 qik-gradient1-kinds.ps
+    qik-gradient1-kinds.r qik-gradient1.Learnt (λ κs e. e .1 .1 .1 .1 .1 .0 .now)
+qik-gradient1-settled-scratch κs a x y s t p q = settled (p .1 .1) (q .1 .1)
+
+pub qik-gradient8-settled : Settles 4 qik-gradient8-kinds.ps qik-gradient8-kinds.r qik-gradient8.Learnt
+qik-gradient8-settled κs a x y s t p q = settled (p .0) (q .0)
+
+pub qik-gradient8-settled-target : SettlesBytes 4 qik-gradient8-kinds.ps
+    qik-gradient8-kinds.r qik-gradient8.Learnt (λ κs e. e .1 .1 .1 .1 .0 .now)
+qik-gradient8-settled-target κs a x y s t p q = settled (p .1 .0) (q .1 .0)
+
+pub qik-gradient8-settled-scratch : SettlesBytes 4 qik-gradient8-kinds.ps
+    qik-gradient8-kinds.r qik-gradient8.Learnt (λ κs e. e .1 .1 .1 .1 .1 .0 .now)
+qik-gradient8-settled-scratch κs a x y s t p q = settled (p .1 .1) (q .1 .1)
+
+pub qik-check-chain-settled : Settles 2 qik-check-chain-kinds.ps
+    qik-check-chain-kinds.r qik-check-chain.Learnt
+qik-check-chain-settled κs a x y s t p q = settled p q
+
+pub qik-chain-erode1-settled : Settles 5 qik-chain-erode1-kinds.ps
+    qik-chain-erode1-kinds.r qik-chain-erode1.Learnt
+qik-chain-erode1-settled κs a x y s t p q = settled (p .0) (q .0)
+
+pub qik-chain-erode1-settled-first : SettlesBytes 5 qik-chain-erode1-kinds.ps
+    qik-chain-erode1-kinds.r qik-chain-erode1.Learnt (λ κs e. e .1 .1 .1 .1 .1 .1 .0 .now)
+qik-chain-erode1-settled-first κs a x y s t p q = settled (p .1 .0) (q .1 .0)
+
+pub qik-chain-erode1-settled-second : SettlesBytes 5 qik-chain-erode1-kinds.ps
+    qik-chain-erode1-kinds.r qik-chain-erode1.Learnt (λ κs e. e .1 .1 .1 .1 .1 .1 .1 .0 .now)
+qik-chain-erode1-settled-second κs a x y s t p q = settled (p .1 .1) (q .1 .1)
+
+pub qik-chain-erode8-settled : Settles 5 qik-chain-erode8-kinds.ps
+    qik-chain-erode8-kinds.r qik-chain-erode8.Learnt
+qik-chain-erode8-settled κs a x y s t p q = settled (p .0) (q .0)
+
+pub qik-chain-erode8-settled-first : SettlesBytes 5 qik-chain-erode8-kinds.ps
+    qik-chain-erode8-kinds.r qik-chain-erode8.Learnt (λ κs e. e .1 .1 .1 .1 .1 .1 .0 .now)
+qik-chain-erode8-settled-first κs a x y s t p q = settled (p .1 .0) (q .1 .0)
+
+pub qik-chain-erode8-settled-second : SettlesBytes 5 qik-chain-erode8-kinds.ps
+    qik-chain-erode8-kinds.r qik-chain-erode8.Learnt (λ κs e. e .1 .1 .1 .1 .1 .1 .1 .0 .now)
+qik-chain-erode8-settled-second κs a x y s t p q = settled (p .1 .1) (q .1 .1)
+
+pub qik-chain-dilate1-settled : Settles 5 qik-chain-dilate1-kinds.ps
+    qik-chain-dilate1-kinds.r qik-chain-dilate1.Learnt
+qik-chain-dilate1-settled κs a x y s t p q = settled (p .0) (q .0)
+
+pub qik-chain-dilate1-settled-first : SettlesBytes 5 qik-chain-dilate1-kinds.ps
+    qik-chain-dilate1-kinds.r qik-chain-dilate1.Learnt (λ κs e. e .1 .1 .1 .1 .1 .1 .0 .now)
+qik-chain-dilate1-settled-first κs a x y s t p q = settled (p .1 .0) (q .1 .0)
+
+pub qik-chain-dilate1-settled-second : SettlesBytes 5 qik-chain-dilate1-kinds.ps
+    qik-chain-dilate1-kinds.r qik-chain-dilate1.Learnt (λ κs e. e .1 .1 .1 .1 .1 .1 .1 .0 .now)
+qik-chain-dilate1-settled-second κs a x y s t p q = settled (p .1 .1) (q .1 .1)
+
+pub qik-chain-dilate8-settled : Settles 5 qik-chain-dilate8-kinds.ps
+    qik-chain-dilate8-kinds.r qik-chain-dilate8.Learnt
+qik-chain-dilate8-settled κs a x y s t p q = settled (p .0) (q .0)
+
+pub qik-chain-dilate8-settled-first : SettlesBytes 5 qik-chain-dilate8-kinds.ps
+    qik-chain-dilate8-kinds.r qik-chain-dilate8.Learnt (λ κs e. e .1 .1 .1 .1 .1 .1 .0 .now)
+qik-chain-dilate8-settled-first κs a x y s t p q = settled (p .1 .0) (q .1 .0)
+
+pub qik-chain-dilate8-settled-second : SettlesBytes 5 qik-chain-dilate8-kinds.ps
+    qik-chain-dilate8-kinds.r qik-chain-dilate8.Learnt (λ κs e. e .1 .1 .1 .1 .1 .1 .1 .0 .now)
+qik-chain-dilate8-settled-second κs a x y s t p q = settled (p .1 .1) (q .1 .1)

@@ -27,12 +27,12 @@ fn run(way: Way, w: usize, h: usize, source: &[u8], element: &[u8], target: &mut
     let made = descriptor::well_weighted(element);
     let no = judge::element_refusal(Depth::EightBit, w, h, source, made, target.len());
     if answer::is_done(no) {
-        let e = reader::element_at(element);
+        let o = reader::outline_at(&element[..]);
+        let words = reader::rows_at(&element[..]);
         let grows = rows::is_growing(way);
-        let o = e.outline;
         let at = element::cells_end(o.w, o.h);
         let heights = &element[at..];
-        apply::weighted(grows, source, target, w, h, o, &e.rows, heights);
+        apply::weighted(grows, source, target, w, h, o, &words, heights);
         return no;
     }
     no
@@ -66,12 +66,12 @@ fn run_twice(
     let made = descriptor::well_weighted(element);
     let no = judge::element_refusal(Depth::EightBit, w, h, source, made, room);
     if answer::is_done(no) {
-        let e = reader::element_at(element);
+        let o = reader::outline_at(&element[..]);
+        let words = reader::rows_at(&element[..]);
         let grows = rows::is_growing(first);
-        let o = e.outline;
         let at = element::cells_end(o.w, o.h);
         let heights = &element[at..];
-        apply::weighted_twice(grows, source, target, scratch, w, h, o, &e.rows, heights);
+        apply::weighted_twice(grows, source, target, scratch, w, h, o, &words, heights);
         return no;
     }
     no

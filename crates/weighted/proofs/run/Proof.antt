@@ -3,10 +3,12 @@
 -- and apply does the rest.
 use Rattle.weighted.proofs.Known.{Known, known, answer-is, room-holds, element-ready}
 use Rattle.weighted.proofs.Known.{small, heights-start, once-left}
+use Rattle.apply.proofs.Read.{parts-read}
 use Rattle.answer.specs.Answer.{told}
 use Rattle.answer.proofs.Lent.{kept-by}
 use Rattle.rows.specs.Steps.Ways.{growsOf}
 use lib.ListN.{length}
+use Prim.Native.Nat.{_≤_}
 use mathlib.Core.Path.{refl, sym, _∙_}
 use native.Mathlib.Omega.{arith}
 use borrow.Author.Needs.{needs}
@@ -25,27 +27,37 @@ judged c = let a = entry c .args in
     (c .before .before .before .well-weighted .ensures) (c .before .before .element-refusal .ensures)
     (sym (c .before .is-done .ensures) ∙ c .if1 .taken)
 
+-- the heights begin within the descriptor
+start-of : (c : tie.After-cells-end)
+    → c .cells-end .result ≤ length (entry (c .before .before .before .before) .args .element .now)
+start-of c =
+    let p = c .before .before .before .before in
+    let q = parts-read (entry p .args .element .now) _ _ (c .before .before
+    .before .outline-at .ensures)
+    (c .before .before .rows-at .ensures) in
+    heights-start (judged p) _ q _ (c .cells-end .ensures)
+
 weighted-requires : tie.Need-weighted-requires
 weighted-requires c κs =
-    let k = judged (c .before .before .before .before .before .before .before .before .before) in (
-      element-ready k _ (c .before .before .before .before .before .before .before
-          .before .element-at .ensures),
-      room-holds k _ (omega arith),
-    )
+    let p = c .before .before .before .before .before .before .before in
+    let q = parts-read (entry p .args .element .now) _ _ (c .before .before .before
+    .before .before .before .outline-at .ensures)
+    (c .before .before .before .before .before .rows-at .ensures) in
+    (element-ready (judged p) _ q, room-holds (judged p) _ (omega arith))
 
 returns : tie.Need-returns
 returns c =
-    let p = c .before .before .before .before .before .before .before .before .before .before
-    .before .before in
-    let a = entry p .args in (
+    let p = c .before .before .before .before .before .before .before .before .before .before in
+    let a = entry p .args in
+    let q = parts-read (entry p .args .element .now) _ _ (c .before .before .before
+    .before .before .before .before .before .before .outline-at .ensures)
+    (c .before .before .before .before .before .before .before .before .rows-at .ensures) in (
       judged p .given,
-      once-left (judged p) _ (c .before .before .before .before .before .before .before .before
-          .before .before .before .element-at .ensures) _ (c .before .before .before .before .before
-          .before .before .before .cells-end .ensures)
+      once-left (judged p) _ q _ (c .before .before .before .before .before .before .cells-end .ensures)
           (λ i. let l = p .before .before .before .before
           .before .shared-slice-known2 .given i in omega arith)
-          (a .target .now) _ _ (growsOf (a .way)) (c .before .before .before .before .before .before
-          .before .before .before .before .is-growing .ensures)
+          (a .target .now) _ _ (growsOf (a .way)) (c .before .before .before .before
+          .before .before .before .is-growing .ensures)
           (c .before .before .weighted .ensures),
     )
 
@@ -53,7 +65,8 @@ returns-2 : tie.Need-returns-2
 returns-2 c =
     let a = c .before .before .before .before .before .before .before .args in
     let e = answer-is (a .w) (a .h) (a .source .now) (a .element .now) _ (length (a .target .now)) _ _
-    refl (c .before .before .before .well-weighted .ensures) (c .before .before .element-refusal .ensures) in
+    refl (c .before .before .before .well-weighted .ensures) (c .before
+    .before .element-refusal .ensures) in
     (e, kept-by (a .target .now) _ _ _ e (sym (c .before .is-done .ensures) ∙ c .if1 .left))
 
 pub run-spec : {M : Type 1} → statement M
@@ -64,12 +77,15 @@ run-spec =
     (λ c κs. search needs)
     (λ c κs. search needs)
     (λ c κs. judged c .cells)
+    (λ c κs. judged (c .before) .cells)
     (λ c κs. search needs)
-    (λ c κs. small (judged (c .before .before .before)) _ (c .before .before .element-at .ensures))
-    (λ c. heights-start (judged (c .before .before .before .before)) _ (c .before .before
-    .before .element-at .ensures) _ (c .cells-end .ensures))
-    (λ c. heights-start (judged (c .before .before .before .before)) _ (c .before .before
-    .before .element-at .ensures) _ (c .cells-end .ensures))
+    (λ c κs. let p = c .before .before .before in
+    small (judged p) _ (parts-read (entry p .args .element .now) _ _ (c .before
+    .before .outline-at .ensures)
+    (c .before .rows-at .ensures)))
+    (λ c. start-of c)
+    (λ c. start-of c)
+    (λ c. search needs)
     (λ c. search needs)
     weighted-requires
     (λ c. search needs)

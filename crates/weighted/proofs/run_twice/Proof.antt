@@ -3,11 +3,12 @@
 -- and apply does the rest.
 use Rattle.weighted.proofs.Known.{Known, known, answer-is, room-holds, element-ready}
 use Rattle.weighted.proofs.Known.{small, heights-start, once-left, twice-left}
+use Rattle.apply.proofs.Read.{parts-read}
 use Rattle.answer.specs.Answer.{told}
 use Rattle.answer.proofs.Lent.{kept-by}
 use Rattle.rows.specs.Steps.Ways.{growsOf}
 use lib.ListN.{length}
-use Prim.Native.Nat.{min}
+use Prim.Native.Nat.{_≤_, min}
 use mathlib.Core.Path.{sym, _∙_}
 use native.Mathlib.Omega.{arith}
 use borrow.Author.Needs.{needs}
@@ -28,26 +29,39 @@ judged c = let a = entry c .args in
     (c .before .before .before .well-weighted .ensures) (c .before .before .element-refusal .ensures)
     (sym (c .before .is-done .ensures) ∙ c .if1 .taken)
 
+-- the heights begin within the descriptor
+start-of : (c : tie.After-cells-end)
+    → c .cells-end .result ≤ length (entry (c .before .before .before .before) .args .element .now)
+start-of c =
+    let p = c .before .before .before .before in
+    let q = parts-read (entry p .args .element .now) _ _ (c .before .before
+    .before .outline-at .ensures)
+    (c .before .before .rows-at .ensures) in
+    heights-start (judged p) _ q _ (c .cells-end .ensures)
+
 weighted-twice-requires : tie.Need-weighted-twice-requires
 weighted-twice-requires c κs =
-    let k = judged (c .before .before .before .before .before .before .before .before .before .before) in (
-      element-ready k _ (c .before .before .before .before .before .before .before .before
-          .before .element-at .ensures),
-      (room-holds k _ (omega arith), room-holds k _ (omega arith)),
-    )
+    let p = c .before .before .before .before .before .before .before .before in
+    let k = judged p in
+    let q = parts-read (entry p .args .element .now) _ _ (c .before .before .before
+    .before .before .before .before .outline-at .ensures)
+    (c .before .before .before .before .before .before .rows-at .ensures) in
+    (element-ready k _ q, (room-holds k _ (omega arith), room-holds k _ (omega arith)))
 
 returns : tie.Need-returns
 returns c =
-    let p = c .before .before .before .before .before .before .before .before .before .before
-    .before .before .before .before .before in
+    let p = c .before .before .before .before .before .before .before .before .before
+    .before .before .before .before in
     let a = entry p .args in
     let k = judged p in
-    let q = c .before .before .before .before .before .before .before .before .before .before
-    .before .before .before .before .element-at .ensures in
-    let n = c .before .before .before .before .before .before .before .before .before .before
+    let q = parts-read (entry p .args .element .now) _ _ (c .before .before .before
+    .before .before .before .before .before .before .before .before .before .outline-at .ensures)
+    (c .before .before .before .before .before .before .before .before .before .before
+    .before .rows-at .ensures) in
+    let n = c .before .before .before .before .before .before .before .before
     .before .cells-end .ensures in
-    let g = c .before .before .before .before .before .before .before .before .before .before
-    .before .before .before .is-growing .ensures in
+    let g = c .before .before .before .before .before .before .before .before .before
+    .before .is-growing .ensures in
     let r = c .before .before .before .before .weighted-twice .ensures in (
       k .given,
       (
@@ -79,12 +93,15 @@ run-twice-spec =
     (λ c κs. search needs)
     (λ c κs. search needs)
     (λ c κs. judged c .cells)
+    (λ c κs. judged (c .before) .cells)
     (λ c κs. search needs)
-    (λ c κs. small (judged (c .before .before .before)) _ (c .before .before .element-at .ensures))
-    (λ c. heights-start (judged (c .before .before .before .before)) _ (c .before .before
-    .before .element-at .ensures) _ (c .cells-end .ensures))
-    (λ c. heights-start (judged (c .before .before .before .before)) _ (c .before .before
-    .before .element-at .ensures) _ (c .cells-end .ensures))
+    (λ c κs. let p = c .before .before .before in
+    small (judged p) _ (parts-read (entry p .args .element .now) _ _ (c .before
+    .before .outline-at .ensures)
+    (c .before .rows-at .ensures)))
+    (λ c. start-of c)
+    (λ c. start-of c)
+    (λ c. search needs)
     (λ c. search needs)
     weighted-twice-requires
     (λ c. search needs)
