@@ -3,6 +3,8 @@
 -- and the difference is made.
 use Rattle.differences.proofs.Made.{made-written, middle-written}
 use Rattle.apply.proofs.Read.{parts-read}
+use Rattle.element.specs.declared.Element.{Element}
+use Rattle.element.specs.Record.{elementOf}
 use Rattle.flat.proofs.Known.{Known, known, answer-is, room-holds, element-ready}
 use Rattle.answer.specs.Answer.{told}
 use Rattle.answer.proofs.Lent.{kept-by, made-by}
@@ -10,7 +12,7 @@ use Rattle.picture.specs.declared.Depth.the-variants.{EightBit}
 use Rattle.picture.specs.Points.{valueAt}
 use lib.ListN.{length}
 use Prim.Native.Nat.{min}
-use mathlib.Core.Path.{sym, _∙_}
+use mathlib.Core.Path.{_≡_, sym, _∙_}
 use native.Mathlib.Omega.{arith}
 use borrow.Author.Needs.{needs}
 use Rattle.differences.proofs.run_bytes.Statement.{statement}
@@ -30,14 +32,20 @@ judged c = let a = entry c .args in
     (c .before .before .before .well-made .ensures) (c .before .before .element-refusal .ensures)
     (sym (c .before .is-done .ensures) ∙ c .if1 .taken)
 
+-- the element, read in its two parts
+found : (c : tie.After-rows-at)
+    → _≡_ {A = Element} (record { outline = c .before .outline-at .result; rows = c .rows-at .result })
+    (elementOf (entry (c .before .before) .args .element .now))
+found c =
+    parts-read (entry (c .before .before) .args .element .now) _ _
+    (c .before .outline-at .ensures) (c .rows-at .ensures)
+
 make-bytes-requires : tie.Need-make-bytes-requires
 make-bytes-requires c κs =
     let p = c .before .before .before .before .before in
     let k = judged p in (
       element-ready k _
-          (parts-read (entry p .args .element .now) _ _ (c .before .before .before
-          .before .outline-at .ensures)
-          (c .before .before .before .rows-at .ensures)),
+          (found (c .before .before .before)),
       (room-holds k _ (omega arith), room-holds k _ (omega arith)),
     )
 
@@ -47,9 +55,7 @@ returns c =
     let a = entry p .args in
     let d = a .element .now in
     let k = judged p in
-    let q = parts-read d _ _ (c .before .before .before .before .before .before .before .before
-    .before .outline-at .ensures) (c .before .before .before .before .before .before .before
-    .before .rows-at .ensures) in
+    let q = found (c .before .before .before .before .before .before .before .before) in
     let A = valueAt EightBit (a .source .now) (a .w) in
     let r = c .before .before .before .before .make-bytes .ensures in (
       k .given,
