@@ -9,7 +9,7 @@ use picture::Depth;
 ghost use mathlib.Core.Path.{_≡_};
 ghost use mathlib.Core.Bool.{true};
 ghost use Prim.Native.Nat.{_+_, _*_, _/_, _≤_, _<_};
-ghost use lib.ListN.{length, replicate};
+ghost use lib.ListN.{length, getD, replicate, take, drop};
 ghost use Rattle.element.specs.Descriptor.{mostCells};
 ghost use Rattle.picture.specs.Frame.{mostPings, Holds};
 ghost use Rattle.picture.specs.Bytes.{written, bytesOf};
@@ -30,48 +30,8 @@ const ROWS: usize = packedline::CELLS;
 // So many cells that raise are many.
 const MANY: usize = 5;
 
-// Row from + i of the element: its cells into both lists, from place i * o.w on, and how many they are.
-fn list_row(
-    rising: &mut [u16],
-    others: &mut [u16],
-    ups: &mut [u8],
-    downs: &mut [u8],
-    grows: bool,
-    o: Outline,
-    words: &[RowWord],
-    hs: &[u8],
-    from: usize,
-    n: usize,
-    i: usize,
-)
-    requires { ⌜ Fits (length (now words)) o from n ⌝ }
-    requires { ⌜ i < n ⌝ }
-    requires { ⌜ Listed grows o (now words) (now hs) from i (now rising) (now others) (now ups)
-        (now downs) ⌝ }
-    ensures { λ _. ⌜ Listed grows o (now (words .entry)) (now (hs .entry)) from (i + 1) (now (rising .exit))
-        (now (others .exit)) (now (ups .exit)) (now (downs .exit)) ⌝ }
-{
-    let origin = o.origin;
-    let column = origin.ping;
-    let c = column.0 as usize;
-    let r = from + i;
-    let a = i * o.w;
-    let z = a + o.w;
-    let k = heightsigns::cells_both(
-        &mut rising[a..z],
-        &mut others[a..z],
-        grows,
-        words[r],
-        o.w,
-        c,
-        hs,
-        r * o.w,
-    );
-    ups[i] = k.rising as u8;
-    downs[i] = k.others as u8;
-}
-
-// The n rows of the element from `from` on.
+// The n rows of the element from `from` on: the cells of row from + i into both lists, from place i * o.w on,
+// and how many they are.
 fn list_rows(
     rising: &mut [u16],
     others: &mut [u16],
@@ -90,11 +50,38 @@ fn list_rows(
     ensures { λ _. ⌜ Listed grows o (now (words .entry)) (now (hs .entry)) from n (now (rising .exit))
         (now (others .exit)) (now (ups .exit)) (now (downs .exit)) ⌝ }
 {
+    let origin = o.origin;
+    let column = origin.ping;
+    let c = column.0 as usize;
     let mut i = 0;
     while i < n {
-        list_row(rising, others, ups, downs, grows, o, words, hs, from, n, i);
+        let r = from + i;
+        let a = i * o.w;
+        let z = a + o.w;
+        let k = heightsigns::cells_both(
+            &mut rising[a..z],
+            &mut others[a..z],
+            grows,
+            words[r],
+            o.w,
+            c,
+            hs,
+            r * o.w,
+        );
+        ups[i] = k.rising as u8;
+        downs[i] = k.others as u8;
         i += 1;
     }
+}
+
+// Row v of a picture of w columns.
+fn row_of(s: &[u8], w: usize, v: Bin) -> &[u8]
+    requires { ⌜ v .0 * w + w ≤ length (now s) ⌝ }
+    ensures { λ r. ⌜ now r ≡ rowIn w (now (s .entry)) (v .0) ⌝ }
+{
+    let a = (v.0 as usize) * w;
+    let z = a + w;
+    &s[a..z]
 }
 
 // A row of values into b, between what counts beyond the frame.
@@ -104,12 +91,6 @@ fn fill(grows: bool, b: &mut [u8], s: &[u8])
     ensures { λ _. ⌜ Padded grows (now (s .entry)) (now (b .exit)) ⌝ }
 {
     packedline::copy_over(false, b, 64, s);
-}
-
-fn one_at(v: u8, end: u8) -> usize
-    ensures { λ r. ⌜ r ≤ 1 ⌝ }
-{
-    if v == end { 1 } else { 0 }
 }
 
 // Whether a row of two blocks or more has few values at the end that has to be held, by one column in 32:
@@ -124,21 +105,10 @@ fn few_ends(grows: bool, s: &[u8]) -> bool
     let mut n = 0;
     let mut i = 0;
     while i < s.len() {
-        n += one_at(s[i], end);
+        n += (s[i] == end) as usize;
         i += 32;
     }
     8 * n <= s.len() / 32
-}
-
-// Whether blocks go without what holds the ends: where the row has few of them, or none can show.
-fn goes_free(bold: bool, sure: bool, n: usize) -> bool {
-    if sure {
-        return true;
-    }
-    if n == 0 {
-        return true;
-    }
-    bold
 }
 
 // 1 where a row is sure, after what n cells that raise found was joined into it.
@@ -175,9 +145,19 @@ fn join_marked(
     ensures mark { λ r. ⌜ (r ≡ 1 → Sure grows (length (now (t .exit)) / 128) (now (t .exit))) ⌝ }
 {
     let sure = mark == 1;
-    let free = goes_free(bold, sure, rising.len());
+    // blocks go without what holds the ends where the row has few of them, or none can show
+    let free = bold | sure | (rising.len() == 0);
     freeblocks::join_row(grows, free, sure, t, b, rising, others);
     mark_of(grows, sure, rising.len(), &t[..])
+}
+
+// One side of row i of those that are listed: so many cells as is counted, from place p on.
+fn cells_of<'a>(cells: &'a [u16], counts: &[u8], p: usize, i: usize) -> &'a [u16]
+    requires { ⌜ (i < length (now counts)) × (p + getD (now counts) i 0 ≤ length (now cells)) ⌝ }
+    ensures { λ r. ⌜ now r ≡ take (getD (now (counts .entry)) i 0) (drop p (now (cells .entry))) ⌝ }
+{
+    let z = p + (counts[i] as usize);
+    &cells[p..z]
 }
 
 // Row from + i of the element from source row v, which stands in b:
@@ -223,79 +203,11 @@ fn add_row(
         return;
     }
     let p = i * o.w;
-    let k = p + (ups[i] as usize);
-    let m = p + (downs[i] as usize);
+    let up = cells_of(rising, ups, p, i);
+    let down = cells_of(others, downs, p, i);
     let a = y * w;
     let z = a + w;
-    let mark = join_marked(
-        grows,
-        bold,
-        marks[y],
-        &mut t[a..z],
-        b,
-        &rising[p..k],
-        &others[p..m],
-    );
-    marks[y] = mark;
-}
-
-// The n rows of the element that are listed, from source row v.
-fn spread(
-    grows: bool,
-    bold: bool,
-    t: &mut [u8],
-    marks: &mut [u8],
-    w: usize,
-    h: usize,
-    b: &[u8],
-    v: Bin,
-    o: Outline,
-    rising: &[u16],
-    others: &[u16],
-    ups: &[u8],
-    downs: &[u8],
-    from: usize,
-    n: usize,
-    words: &[RowWord],
-    hs: &[u8],
-    s: &[u8],
-)
-    requires { ⌜ Ready Depth.EightBit (length (now s)) (length (now words)) w h o ⌝ }
-    requires { ⌜ (length (now t) ≡ h * w) × (v .0 < h) ⌝ }
-    requires { ⌜ Fits (length (now words)) o from n × Marked grows w h (now marks) (now t) ⌝ }
-    requires { ⌜ Listed grows o (now words) (now hs) from n (now rising) (now others) (now ups)
-        (now downs) ⌝ }
-    requires { ⌜ Padded grows (rowIn w (now s) (v .0)) (now b) ⌝ }
-    requires { ⌜ Part grows (now s) w h o (now words) (now hs) from n (v .0) from (now t) ⌝ }
-    ensures marks { λ _. ⌜ Marked grows w h (now (marks .exit)) (now (t .exit)) ⌝ }
-    ensures part { λ _. ⌜ Part grows (now (s .entry)) w h o (now (words .entry)) (now (hs .entry)) from n
-        (v .0 + 1) from (now (t .exit)) ⌝ }
-{
-    let mut i = 0;
-    while i < n {
-        add_row(
-            grows,
-            bold,
-            t,
-            marks,
-            w,
-            h,
-            b,
-            v,
-            o,
-            rising,
-            others,
-            ups,
-            downs,
-            from,
-            n,
-            i,
-            words,
-            hs,
-            s,
-        );
-        i += 1;
-    }
+    marks[y] = join_marked(grows, bold, marks[y], &mut t[a..z], b, up, down);
 }
 
 // Source row v into every row of the result that sees it by one of the n rows of the element.
@@ -328,30 +240,34 @@ fn source_row(
         (v .0 + 1) from (now (t .exit)) ⌝ }
 {
     let mut b = [blocks::beyond(grows); weighblocks::ROOM];
-    let a = (v.0 as usize) * w;
-    let z = a + w;
-    fill(grows, &mut b, &s[a..z]);
-    let bold = few_ends(grows, &s[a..z]);
-    spread(
-        grows,
-        bold,
-        t,
-        marks,
-        w,
-        h,
-        &b,
-        v,
-        o,
-        rising,
-        others,
-        ups,
-        downs,
-        from,
-        n,
-        words,
-        hs,
-        s,
-    );
+    let row = row_of(s, w, v);
+    fill(grows, &mut b, row);
+    let bold = few_ends(grows, row);
+    let mut i = 0;
+    while i < n {
+        add_row(
+            grows,
+            bold,
+            t,
+            marks,
+            w,
+            h,
+            &b,
+            v,
+            o,
+            rising,
+            others,
+            ups,
+            downs,
+            from,
+            n,
+            i,
+            words,
+            hs,
+            s,
+        );
+        i += 1;
+    }
 }
 
 // The whole picture by n rows of the element, from `from` on.

@@ -2,7 +2,8 @@
 -- into the row that sees row v by it: `part-join`.
 use Rattle.heightsigns.proofs.Line.{cells-near, cells-under}
 use Rattle.freeblocks.specs.Steps.Plain.{turnedBy, Under}
-use Rattle.basics.proofs.SliceParts.{get-mid}
+use Rattle.basics.proofs.SliceParts.{get-mid, put-length}
+use Rattle.byheight.specs.Steps.Listed.{Side}
 use Rattle.byheight.proofs.Marks.{marked-join}
 use Rattle.byheight.proofs.Part.{part-out, part-join}
 use Rattle.weighblocks.specs.Steps.Cells.{weighedRow, Near}
@@ -10,10 +11,10 @@ use Rattle.sourceparts.proofs.Bytes.{row-at, row-long}
 use Rattle.bitrow.specs.Steps.Added.{rowIn}
 use Rattle.picture.proofs.Sizes.{row-room}
 use Rattle.basics.proofs.Lists.{part-length}
-use lib.ListN.{length, getD, take, drop}
+use lib.ListN.{length, getD, drop, length-set}
 use Prim.Native.Nat.{_+_, _-_, _*_, _/_, _≤_, _<_}
 use mathlib.Core.Bool.{true, false}
-use mathlib.Core.Path.{sym, ap₂, _∙_, subst}
+use mathlib.Core.Path.{_≡_, sym, ap₂, _∙_, subst}
 use borrow.Rule.Slice.PartMut.{midOf}
 use native.Mathlib.Nat.{mul-le-mul, add-sub-cancel-left}
 use native.Mathlib.Omega.{arith}
@@ -31,7 +32,7 @@ room : (e : tie.Else1) → let a = entry e .args in
 room e =
     omega (
       arith,
-      row-room (entry e .args .w) {y = e .before .source-row .result} {n = entry e .args .h} (omega arith),
+      row-room (entry e .args .w) {y = e .before .source-row .result} {n = entry e .args .h} (e .if1 .left),
       entry e .pre .1 .0 .0,
     )
 
@@ -43,27 +44,38 @@ small e =
     let l = mul-le-mul {n₁ = a .h} {m₁ = a .w} {n₂ = 256} {m₂ = 1024} (p .0 .few-bins) (p .0 .few-pings) in
     omega (arith, room e, p .1 .0 .0, l)
 
+marked : (e : tie.Else1) → e .before .source-row .result < length (entry e .args .marks .now)
+marked e = omega (arith, e .if1 .left, entry e .pre .1 .1 .0 .1 .0, entry e .pre .0 .few-bins)
+
+long : (e : tie.Else1) → let a = entry e .args in let y = e .before .source-row .result in
+    length (midOf (y * a .w) (y * a .w + a .w - y * a .w) (a .t .now)) ≡ a .w
+long e =
+    part-length (entry e .args .t .now) (e .before .source-row .result * entry e .args .w) (entry e .args .w)
+    (room e)
+
 origin-lt : (s : tie.Start) → s .args .o .origin .ping .0 < 64
 origin-lt s = omega (arith, s .pre .0 .column, s .pre .0 .few-wide)
 
--- the part of the lists that the row has, and how many cells of either side stand there
-listed : (e : tie.Else1) → entry e .args .i * entry e .args .o .w + entry e .args .o .w ≤ 256
-listed e =
-    let s = entry e in
+-- the part of the lists that the row has, and the cells of either side that stand there
+listed : (s : tie.Start) → s .args .i * s .args .o .w + s .args .o .w ≤ 256
+listed s =
     omega (
       arith,
       row-room (s .args .o .w) {y = s .args .i} {n = s .args .n} (s .pre .1 .0 .1 .1),
       s .pre .1 .1 .0 .0 .room,
     )
 
-ups : (e : tie.Else1) → getD (entry e .args .ups .now) (entry e .args .i) 0 ≤ entry e .args .o .w
-ups e = entry e .pre .1 .1 .1 .0 .up (entry e .args .i) (entry e .pre .1 .0 .1 .1) .few
+counted : (s : tie.Start) → s .args .i < 64
+counted s = omega (arith, s .pre .1 .0 .1 .1, s .pre .1 .1 .0 .0 .rows, s .pre .1 .1 .0 .0 .high)
 
-downs : (e : tie.Else1) → getD (entry e .args .downs .now) (entry e .args .i) 0 ≤ entry e .args .o .w
-downs e = entry e .pre .1 .1 .1 .0 .down (entry e .args .i) (entry e .pre .1 .0 .1 .1) .few
+up : (s : tie.Start) → let a = s .args in
+    Side (a .grows) true (a .o) (a .words .now) (a .hs .now) (a .from) (a .i) (a .rising .now) (a .ups .now)
+up s = s .pre .1 .1 .1 .0 .up (s .args .i) (s .pre .1 .0 .1 .1)
 
-few : (e : tie.Else1) → entry e .args .o .w ≤ 64
-few e = entry e .pre .0 .few-wide
+down : (s : tie.Start) → let a = s .args in
+    Side (a .grows) false (a .o) (a .words .now) (a .hs .now) (a .from) (a .i) (a .others .now) (a .downs
+    .now)
+down s = s .pre .1 .1 .1 .0 .down (s .args .i) (s .pre .1 .0 .1 .1)
 
 returns : tie.Need-returns
 returns c =
@@ -76,74 +88,89 @@ returns c =
           (s .pre .1 .1 .1 .1 .1),
     )
 
+cells-of-requires : tie.Need-cells-of-requires
+cells-of-requires c κs =
+    let s = c .before .before .before .before .before .before .before .before .before .before .before
+    .before .before .before in
+    let g = s .pre .1 .1 .1 .0 in
+    (omega (arith, counted s, g .up-counts), omega (arith, listed s, up s .few, g .up-room))
+
+cells-of-requires-2 : tie.Need-cells-of-requires-2
+cells-of-requires-2 c κs =
+    let s = c .before .before .before .before .before .before .before .before .before .before .before
+    .before .before .before .before in
+    let g = s .pre .1 .1 .1 .0 in
+    (omega (arith, counted s, g .down-counts), omega (arith, listed s, down s .few, g .down-room))
+
 join-marked-requires : tie.Need-join-marked-requires
 join-marked-requires c κs =
-    let e = c .before .before .before .before .before .before .before in
+    let e = c .before .before .before .before .before in
     let s = entry e in
     let a = s .args in
-    let g = s .pre .1 .1 .1 .0 in
-    let p = a .i * a .o .w in
     let y = e .before .source-row .result in
-    let k = getD (a .ups .now) (a .i) 0 in
-    let up = g .up (a .i) (s .pre .1 .0 .1 .1) in
-    let l = part-length (a .t .now) (y * a .w) (a .w) (room e) in (
-      omega (arith, l, s .pre .0 .few-pings),
+    let u = c .before .before .before .cells-of .ensures in
+    let d = c .before .before .cells-of2 .ensures in
+    let wide = s .pre .0 .few-wide in (
+      omega (arith, long e, s .pre .0 .few-pings),
       (
         (
           s .pre .1 .1 .1 .1 .0 .values,
           (
-            subst (λ k. Near (take k (drop p (a .rising .now)))) (sym (add-sub-cancel-left p k))
-                (cells-near (a .grows) true _ _ _ _ _ k (drop p (a .rising .now)) (few e) (origin-lt s) up),
-            subst (λ k. Near (take k (drop p (a .others .now))))
-                (sym (add-sub-cancel-left p (getD (a .downs .now) (a .i) 0)))
-                (cells-near (a .grows) false _ _ _ _ _ (getD (a .downs .now) (a .i) 0)
-                (drop p (a .others .now)) (few e) (origin-lt s) (g .down (a .i) (s .pre .1 .0 .1 .1))),
+            subst Near (sym u) (cells-near (a .grows) true _ _ _ _ _ _ _ wide (origin-lt s) (up s)),
+            subst Near (sym d) (cells-near (a .grows) false _ _ _ _ _ _ _ wide (origin-lt s) (down s)),
           ),
         ),
         (
           λ q i h.
-              let h' : i < 128 * (a .w / 128) = subst (λ n. i < 128 * (n / 128)) l h in
+              let h' : i < 128 * (a .w / 128) = subst (λ n. i < 128 * (n / 128)) (long e) h in
               subst (λ v. 128 ≤ turnedBy (a .grows) v)
               (sym (get-mid (y * a .w) (y * a .w + a .w - y * a .w) (a .t .now) i
               (omega (arith, h', add-sub-cancel-left (y * a .w) (a .w)))))
-              (s .pre .1 .1 .0 .1 .1 y (omega arith) q i h'),
-          subst (λ k. Under (take k (drop p (a .rising .now))) 128) (sym (add-sub-cancel-left p k))
-              (cells-under (a .grows) _ _ _ _ _ k (drop p (a .rising .now)) up),
+              (s .pre .1 .1 .0 .1 .1 y (e .if1 .left) q i h'),
+          subst (λ l. Under l 128) (sym u) (cells-under (a .grows) _ _ _ _ _ _ _ (up s)),
         ),
       ),
     )
 
+same-length : tie.Need-same-length
+same-length c =
+    let e = c .before .before .before .before .before .before .before .before in
+    let a = entry e .args in
+    let y = e .before .source-row .result in
+    let j = c .before .before .join-marked in
+    put-length (y * a .w) (y * a .w + a .w - y * a .w) (a .t .now) (j .last .1 .1 .1 .0)
+    (omega (arith, room e)) (j .kept .1 .1 .1 .0 ∙ long e ∙ sym (add-sub-cancel-left (y * a .w) (a .w)))
+
 returns-2 : tie.Need-returns-2
 returns-2 c =
-    let e = c .before .before .before .before .before .before .before .before .before .before in
+    let e = c .before .before .before .before .before .before .before .before in
     let s = entry e in
     let a = s .args in
     let j = c .before .before .join-marked in
     let y = e .before .source-row in
-    let g = s .pre .1 .1 .1 .0 in
-    let p = a .i * a .o .w in
-    let k = getD (a .ups .now) (a .i) 0 in
-    let m = getD (a .downs .now) (a .i) 0 in
-    let l = part-length (a .t .now) (y .result * a .w) (a .w) (room e) in (
+    let p = a .i * a .o .w in (
       marked-join (a .grows) (a .w) (a .h) (a .marks .now) (a .t .now) (j .last .1 .1 .1 .0) (y .result)
-          (j .result) (omega arith) (s .pre .0 .few-bins) (s .pre .1 .0 .0) (j .kept .1 .1 .1 .0 ∙ l)
+          (j .result) (e .if1 .left) (s .pre .0 .few-bins) (s .pre .1 .0 .0) (j .kept .1 .1 .1 .0 ∙ long e)
           (j .ensures .1) (s .pre .1 .1 .0 .1),
       part-join (a .grows) (a .s .now) (a .w) (a .h) (a .o) (a .words .now) (a .hs .now) (a .from) (a .n)
           (a .v .0) (a .from + a .i) (y .result) (a .t .now) (s .pre .0 .few-pings) (s .pre .1 .0 .1 .0)
-          (omega arith) (omega (arith, s .pre .1 .0 .1 .1, s .pre .1 .1 .0 .0 .rows))
+          (e .if1 .left) (omega (arith, s .pre .1 .0 .1 .1, s .pre .1 .1 .0 .0 .rows))
           (omega (arith, s .pre .1 .0 .1 .1))
           (s .pre .0 .few-wide) (s .pre .0 .column) (s .pre .1 .0 .0) (y .ensures)
           (a .b .now) (rowIn (a .w) (a .s .now) (a .v .0)) (j .last .1 .1 .1 .0)
-          (λ i. let f = e .before .before .before .before .before .before .before .before .before .before
-          .shared-slice-known .given i in
-          omega arith)
+          (λ i. omega (
+            arith,
+            e .before .before .before .before .before .before .before .before .before
+                .before .shared-slice-known .given i,
+          ))
           (row-at (a .s .now) (a .w) (a .v .0))
           (row-long (a .s .now) (a .w) (a .h) (a .v .0) (s .pre .1 .0 .1 .0) (s .pre .0 .source))
-          (s .pre .1 .1 .1 .1 .0) k m (drop p (a .rising .now)) (drop p (a .others .now))
-          (g .up (a .i) (s .pre .1 .0 .1 .1)) (g .down (a .i) (s .pre .1 .0 .1 .1))
-          (j .ensures .0 ∙ ap₂ (λ k m. weighedRow (a .grows) (a .b .now) (take k (drop p (a .rising .now)))
-          (take m (drop p (a .others .now))) (midOf (y .result * a .w) (y .result * a .w + a .w
-          - y .result * a .w) (a .t .now))) (add-sub-cancel-left p k) (add-sub-cancel-left p m))
+          (s .pre .1 .1 .1 .1 .0) (getD (a .ups .now) (a .i) 0) (getD (a .downs .now) (a .i) 0)
+          (drop p (a .rising .now)) (drop p (a .others .now)) (up s) (down s)
+          (j .ensures .0 ∙ ap₂ (λ u d. weighedRow (a .grows) (a .b .now) u d
+          (midOf (y .result * a .w) (y .result * a .w + a .w - y .result * a .w) (a .t .now)))
+          (c .before .before .before .before .before .before .cells-of .ensures) (c .before .before .before
+          .before .before .cells-of2 .ensures))
           (s .pre .1 .1 .1 .1 .1),
     )
 
@@ -153,53 +180,25 @@ add-row-spec =
     (tie.spec
     (λ c. search needs)
     (λ c. search needs)
-    (λ c κs. search needs)
+    (λ c κs. tt)
     returns
-    (λ c. omega (arith, listed (c .before)))
-    (λ c. search needs)
-    (λ c. omega (arith, ups (c .before .before), few (c .before .before)))
-    (λ c. omega (arith, listed (c .before .before), ups (c .before .before)))
-    (λ c. search needs)
-    (λ c. omega (arith, downs (c .before .before .before), few (c .before .before .before)))
-    (λ c. omega (arith, listed (c .before .before .before), downs (c .before .before .before)))
+    (λ c. omega (
+      arith,
+      listed (c .before .before .before .before .before .before .before .before .before
+          .before .before .before .before .before),
+    ))
+    cells-of-requires
+    cells-of-requires-2
     (λ c. omega (arith, small (c .before .before .before)))
     (λ c. omega (arith, small (c .before .before .before)))
-    (λ c. search needs)
+    (λ c. marked (c .before .before .before .before))
     (λ c. search needs)
     (λ c. search needs)
     (λ c. room (c .before .before .before .before))
-    (λ c. omega (
-      arith,
-      listed (c .before .before .before .before .before),
-      ups (c .before .before .before
-          .before .before),
-    ))
-    (λ c. search needs)
-    (λ c. search needs)
-    (λ c. let e = c .before .before .before .before .before in omega (
-      arith,
-      listed e,
-      ups e,
-      entry e .pre
-          .1 .1 .1 .0 .up-room,
-    ))
-    (λ c. omega (
-      arith,
-      listed (c .before .before .before .before .before .before),
-      downs (c .before
-          .before .before .before .before .before),
-    ))
-    (λ c. search needs)
-    (λ c. search needs)
-    (λ c. let e = c .before .before .before .before .before .before in omega (
-      arith,
-      listed e,
-      downs e,
-      entry e .pre .1 .1 .1 .0 .down-room,
-    ))
     join-marked-requires
-    (λ c. let p = entry (c .before .before .before .before .before .before .before .before .before .before)
-    .pre in omega (arith, p .1 .1 .0 .1 .0, p .0 .few-bins))
-    (λ c. search needs)
-    (λ c. search needs)
+    (λ c. marked (c .before .before .before .before .before .before .before .before))
+    same-length
+    (λ c. length-set (c .before .before .before .before .before .before .before .before .before .before
+    .before .before .before .before .before .before .before .before .before .before .before .args .marks
+    .now) _ _)
     returns-2)

@@ -13,13 +13,13 @@ use Rattle.byheight.proofs.join_marked.Tie as tie
 
 join-row-requires : tie.Need-join-row-requires
 join-row-requires c κs =
-    let s = c .before .before .before .before .before .before in
+    let s = c .before .before .before .before .before in
     let p = s .pre in
     (p .0, (p .1 .0, (λ e. p .1 .1 .0 (eqb-true (s .args .mark) 1 e), p .1 .1 .1)))
 
 mark-of-requires : tie.Need-mark-of-requires
 mark-of-requires c κs =
-    let s = c .before .before .before .before .before .before .before .before .before .before in
+    let s = c .before .before .before .before .before .before .before .before .before in
     let a = s .args in
     let j = c .before .before .before .join-row in
     λ e. subst (λ n. Sure (a .grows) (n / 128) (j .last .1 .1 .1 .0)) (sym (j .kept .1 .1 .1 .0))
@@ -30,5 +30,4 @@ mark-of-requires c κs =
 pub join-marked-spec : {M : Type 1} → statement M
 join-marked-spec =
     tie.close
-    (tie.spec (λ c κs. search needs) join-row-requires mark-of-requires (λ c. search needs) (λ c. search
-    needs))
+    (tie.spec join-row-requires mark-of-requires (λ c. search needs) (λ c. search needs))

@@ -3,8 +3,8 @@
 use Rattle.byheight.specs.Steps.Listed.{Listed}
 use Rattle.byheight.specs.Steps.Part.{Part, Marked}
 use lib.ListN.{length, getD-replicate}
-use Prim.Native.Nat.{ℕ, _-_, _≤_}
-use mathlib.Core.Path.{_≡_, refl, _∙_, subst}
+use Prim.Native.Nat.{ℕ, zero-le, _-_, _≤_, _<_}
+use mathlib.Core.Path.{_≡_, refl, sym, _∙_, subst}
 use native.Mathlib.Nat.{not-suc-le-zero}
 use native.Mathlib.Omega.{arith}
 use borrow.Author.Needs.{needs}
@@ -36,7 +36,7 @@ loop-holds : tie.Need-loop-holds Inv-loop μ-loop
 loop-holds c =
     let s = c .before .before .before .before .before .before .before .before .before .before .before
     .before .before in (
-      search needs,
+      zero-le,
       refl,
       c .before .before .before .before .list-rows .ensures,
       s .pre .1 .1,
@@ -55,18 +55,37 @@ loop-holds c =
       ),
     )
 
+-- in a turn of the loop the frame has row v
+early : (g : tie.In-loop Inv-loop μ-loop) → g .before .loop .v < 256
+early g = omega (
+  arith,
+  g .loop-test .taken,
+  g .before .before .before .before .before .before .before
+      .before .before .before .before .before .before .before .before .pre .0 .few-bins,
+)
+
 source-row-requires : tie.Need-source-row-requires Inv-loop μ-loop
 source-row-requires c κs =
     let p = c .before .before .before .before .before .before .before .before .before .before .before
     .before .before .before .before .before .before .before .before .before .before .pre in
     let l = c .before .before .before .before .before .before .before .loop in
-    (p .0, ((l .inv .1 ∙ p .1 .0 .0, search needs), ((p .1 .0 .1, l .inv .4), (l .inv .2, l .inv .3))))
+    let v = c .before .before .before .before .before .before .loop-test .taken in
+    (p .0, ((l .inv .1 ∙ p .1 .0 .0, v), ((p .1 .0 .1, l .inv .4), (l .inv .2, l .inv .3))))
 
 loop-again : tie.Need-loop-again Inv-loop μ-loop
 loop-again c =
     let l = c .before .before .before .before .before .before .before .before .before .before .before .loop in
-    let r = c .before .before .before .source-row in
-    (search needs, r .kept .1 .0 ∙ l .inv .1, l .inv .2, r .ensures .1, r .ensures .0)
+    let r = c .before .before .before .source-row in (
+      omega (
+        arith,
+        c .before .before .before .before .before .before .before .before .before .before
+            .loop-test .taken,
+      ),
+      r .kept .1 .0 ∙ l .inv .1,
+      l .inv .2,
+      r .ensures .1,
+      r .ensures .0,
+    )
 
 same-length : tie.Need-same-length Inv-loop μ-loop
 same-length c = c .before .loop .inv .1
@@ -76,7 +95,7 @@ returns c =
     let a = c .before .before .before .before .before .before .before .before .before .before .before
     .before .before .before .before .args in
     let l = c .before .loop in
-    let e : l .v ≡ a .h = omega arith in
+    let e : l .v ≡ a .h = omega (arith, l .inv .0, c .loop-test .left) in
     subst (λ v. Part (a .grows) (a .s .now) (a .w) (a .h) (a .o) (a .words .now) (a .hs .now) (a .from) (a
     .n) v
     (a .from) (l .t)) e (l .inv .3)
@@ -93,20 +112,23 @@ sweep-rows-spec =
     (λ c. search needs)
     list-rows-requires
     loop-holds
-    (λ c. search needs)
-    (λ c. search needs)
-    (λ c. search needs)
-    (λ c. search needs)
-    (λ c. search needs)
-    (λ c. search needs)
+    (λ c. sym (c .before .before .before .loop .inv .4 .0))
+    (λ c. omega (arith, early (c .before .before)))
+    (λ c. sym (c .before .before .before .before .loop .inv .2 .up-room))
+    (λ c. sym (c .before .before .before .before .before .loop .inv .2 .down-room))
+    (λ c. sym (c .before .before .before .before .before .before .loop .inv .2 .up-counts))
+    (λ c. sym (c .before .before .before .before .before .before .before .loop .inv .2 .down-counts))
     source-row-requires
     (λ c. omega (
       arith,
-      c .before .before .before .before .before .before .before .before .before .before
-          .before .before .before .before .before .before .before .before .before .before .before .before
-          .before .before .before .pre .0 .few-bins,
+      early (c .before .before .before .before .before .before .before .before .before
+          .before),
     ))
-    (λ c. search needs)
+    (λ c. omega (
+      arith,
+      c .before .before .before .before .before .before .before .before .before .before
+          .loop-test .taken,
+    ))
     loop-again
     same-length
     returns)

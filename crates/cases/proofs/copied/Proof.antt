@@ -10,8 +10,8 @@ use Rattle.judge.specs.declared.Padding.the-variants.{Free}
 use Rattle.judge.specs.Tests.{Admitted}
 use Rattle.judge.proofs.Admitted.{admitted, holds}
 use borrow.Author.Needs.{needs}
-use Rattle.hatcases.proofs.copied.Statement.{statement}
-use Rattle.hatcases.proofs.copied.Tie as tie
+use Rattle.cases.proofs.copied.Statement.{statement}
+use Rattle.cases.proofs.copied.Tie as tie
 
 -- where nothing is refused
 known : (c : tie.Then1) → let a = c .before .before .before .before .before .args in
