@@ -1,4 +1,6 @@
 // What a call answers: done, or the first refusal that holds. One kind for the whole library.
+#![tactic(auto)]
+
 ghost use Rattle.std.specs.Prelude.{◌≡◌, ◌^◌, ◌<◌};
 ghost use Rattle.std.proofs.Math.IntN.{sub_ℕ};
 ghost use Rattle.answer.specs.Answer.{told, is_done, centre};
@@ -7,7 +9,7 @@ ghost use Rattle.answer.specs.Packed.{mod_byte, packed};
 // A coordinate of an offset is held with this added, so that no number is negative: where 0 stands.
 pub const CENTRE: usize = 128;
 
-#[derive(Drop)]
+#[derive(Clone, Copy)]
 pub enum Answer {
     Done,
     Size,
@@ -32,7 +34,7 @@ pub enum Answer {
 }
 
 // An answer as a person reads it: its number, and dx and dy, which are 0 but for a split.
-#[derive(Drop)]
+#[derive(Clone, Copy)]
 pub struct Told {
     pub number: u32,
     pub dx: i32,
@@ -40,7 +42,7 @@ pub struct Told {
 }
 
 // The bytes of a split.
-#[derive(Drop)]
+#[derive(Clone, Copy)]
 struct Held {
     x: u8,
     y: u8,

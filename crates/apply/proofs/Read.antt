@@ -5,7 +5,7 @@ use mathlib.Core.Path.{◌≡◌, sym, ap, ap₂, ◌∙◌, subst}
 use mathlib.Core.Bool.{Bool, true, false, not, cond}
 use mathlib.Core.List.{List}
 use native.Mathlib.Omega.{arith}
-use lib.ListN.{length, take, drop, replicate, length-append, length_replicate}
+use lib.ListN.{length, take, drop, replicate, length-append, length-replicate}
 use Rattle.basics.specs.Bytes.{Bytes}
 use Rattle.basics.specs.Lists.{firsts}
 use Rattle.basics.proofs.Lists.{length_firsts, tail_is}
@@ -43,7 +43,7 @@ module _ (d : List ℕ) (m : cells_made d ≡ true) where
       let t = cells_tell d m in
       length-append (firsts (row_word d n) (high_of d)) (replicate (most_cells - high_of d) 0)
       ∙ ap₂ (λ a b. a + b) (length_firsts (row_word d n) (high_of d))
-      (length_replicate (most_cells - high_of d) 0)
+      (length-replicate (most_cells - high_of d) 0)
       ∙ whole (high_of d) t.few_high
     where
       n : ℕ

@@ -1,6 +1,8 @@
 // A picture by an element that was read, once or twice; crates bitways and byteways choose the way.
 // Nothing is judged and nothing is refused here: entry points judge, then apply.
 // Each depth has functions of its own, so that an entry point of one bit takes no stack for 8-bit rows.
+#![tactic(auto)]
+
 ghost use Rattle.std.specs.Prelude.{◌≡◌, length};
 ghost use Rattle.picture.specs.declared.Depth.TheVariants.{OneBit, EightBit};
 ghost use Rattle.picture.specs.Frame.{Holds};

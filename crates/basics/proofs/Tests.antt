@@ -2,7 +2,7 @@
 -- nothing tested, one more that passes, one that stops it, all tested.
 use Prim.Native.Nat.{ℕ, zero, suc, ◌+◌, ◌-◌, ◌<◌}
 use mathlib.Core.Path.{◌≡◌, refl, sym, ap, ap₂, ◌∙◌}
-use mathlib.Core.Bool.{Bool, true, false, cond, ◌&&◌, and_false}
+use mathlib.Core.Bool.{Bool, true, false, cond, ◌&&◌, and-false}
 use mathlib.Core.Logic.{⊎_elim}
 use native.Mathlib.Omega.{arith}
 use native.Mathlib.Numerals.{add-one}
@@ -44,7 +44,7 @@ module _ (p : ℕ → Bool) where
   pub all_stop : (i n : ℕ) → i < n → p i ≡ false → all p n ≡ false
   unfolding all
   all_stop i n h q =
-      ap (all p) (split i n h) ∙ later (n - suc i) (suc i) (ap (λ b. all p i && b) q ∙ and_false (all p i))
+      ap (all p) (split i n h) ∙ later (n - suc i) (suc i) (ap (λ b. all p i && b) q ∙ and-false (all p i))
     where
       split : (i n : ℕ) → i < n → n ≡ (n - suc i) + suc i
       split i n h = omega arith

@@ -1,6 +1,8 @@
 // The lesser and the greater of two numbers;
 // and the definitions and laws on lists, bits and tests that every other crate is written with.
-ghost use Rattle.std.specs.Prelude.{◌≡◌, min, max};
+#![tactic(auto)]
+
+ghost use Rattle.std.specs.Prelude.{◌≡◌, ◌≤◌, ◌++◌, length, take, drop, min, max};
 
 pub fn lesser(a: usize, b: usize) -> usize
     ensures { result ≡ min a b }
@@ -25,4 +27,15 @@ pub fn greater_byte(a: u8, b: u8) -> u8
     ensures { result ≡ max a b }
 {
     if a < b { b } else { a }
+}
+
+// The bytes of s to the start of t; it gives how many they are.
+pub fn copy(s: &[u8], t: &mut [u8]) -> usize
+    requires { length s.now ≤ length t.old }
+    ensures value { result ≡ length s.now }
+    ensures bytes { t.new ≡ take (length s.now) s.now ++ drop (length s.now) t.old }
+{
+    let n = s.len();
+    t[..n].copy_from_slice(s);
+    n
 }

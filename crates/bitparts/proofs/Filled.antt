@@ -6,7 +6,7 @@ use mathlib.Core.List.{List}
 use mathlib.Core.Logic.{◌⊎◌, inl, inr, ⊎_elim}
 use native.Mathlib.Omega.{arith}
 use native.Mathlib.Nat.{eq-or-lt_of_le}
-use lib.ListN.{length, get_or, set, replicate, length_replicate, get_or-replicate, length-set}
+use lib.ListN.{length, get_or, set, replicate, length-replicate, get_or-replicate, length-set}
 use lib.Seq.{get_or-set_same, get_or-set_other}
 use Rattle.basics.specs.Bits.{bit}
 use Rattle.basics.specs.Bytes.{Bytes}
@@ -49,10 +49,10 @@ module _ (grows : Bool) (s : List ℕ) (w base : ℕ) (bytes : Bytes s) (some : 
   theirs = replicate 194 (start_by grows 255)
 
   mine_long : length mine ≡ 308
-  mine_long = length_replicate {A = ℕ} 308 (start_by grows 255)
+  mine_long = length-replicate {A = ℕ} 308 (start_by grows 255)
 
   theirs_long : length theirs ≡ 194
-  theirs_long = length_replicate {A = ℕ} 194 (start_by grows 255)
+  theirs_long = length-replicate {A = ℕ} 194 (start_by grows 255)
 
   copied_same : (i : ℕ) → i < 154
       → get_or (copied_in grows (base + 8) s) (base + i) 0 ≡ get_or (copied_of false grows s) i 0

@@ -1,6 +1,8 @@
 // Rooms of packed points: packed rows with what counts beyond the frame at both ends, and their windows.
 // A room's windows are made in the other room, and what stands at several places is joined into a packed row,
 // a block at a time.
+#![tactic(auto)]
+
 ghost use Rattle.std.specs.Prelude.{◌≡◌, ◌+◌, ◌*◌, ◌/◌, ◌≤◌, ◌<◌, length};
 ghost use Rattle.basics.specs.Lists.{firsts};
 ghost use Rattle.windows.specs.Steps.Places.{place_joined, places_joined, joined_row, Reached};

@@ -1,4 +1,6 @@
 // One packed row of a one-bit result by all the rows of an element: no point is unpacked.
+#![tactic(auto)]
+
 ghost use Rattle.std.specs.Prelude.{◌≡◌, ◌<◌, length};
 ghost use Rattle.picture.specs.Frame.{row_bytes};
 ghost use Rattle.rows.specs.Steps.Ready.{Ready};
@@ -9,7 +11,7 @@ use element::{Outline, RowWord};
 use picture::{Bin, Depth};
 
 // What becomes of the source: taken as it is or turned over, then dilated, which grows, or eroded.
-#[derive(Drop)]
+#[derive(Clone, Copy)]
 pub struct Task {
     pub over: bool,
     pub grows: bool,

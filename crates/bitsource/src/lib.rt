@@ -1,6 +1,8 @@
 // A one-bit picture by a flat element, a source row at a time, eight points at once:
 // the windows of a packed row are made once, and joined into every row of the result that sees it.
 // The target's own rows gather them, in any order: a join that is repeated changes nothing.
+#![tactic(auto)]
+
 ghost use Rattle.std.specs.Prelude.{◌≡◌, ◌+◌, ◌-◌, ◌*◌, ◌/◌, ◌≤◌, ◌<◌, length, replicate};
 ghost use Rattle.picture.specs.Frame.{most_pings, Holds, frame, row_bytes};
 ghost use Rattle.picture.specs.Points.{value_at};

@@ -1,6 +1,8 @@
 // The ways that a one-bit picture goes by a flat element: in words, as a rectangle, by source rows, row by
 // row. Which one is a matter of time alone: the promise is the same.
 // Here and below, a slice is handed on as `&s[..]`: handed on as it came it would be copied in each frame.
+#![tactic(auto)]
+
 ghost use Rattle.std.specs.Prelude.{◌≡◌, ◌*◌, ◌≤◌, length};
 ghost use Rattle.picture.specs.Frame.{Holds, frame};
 ghost use Rattle.picture.specs.Points.{value_at};

@@ -3,7 +3,7 @@ use Prim.Native.Nat.{ℕ, ◌+◌}
 use mathlib.Core.Path.{◌≡◌, refl, ap, ◌∙◌}
 use mathlib.Core.Bool.{Bool}
 use mathlib.Core.List.{List, [], ◌∷◌}
-use lib.ListN.{length, replicate, length_replicate}
+use lib.ListN.{length, replicate, length-replicate}
 use Rattle.basics.specs.Lists.{firsts}
 use Rattle.rows.specs.Steps.Fold.{start_by}
 use Rattle.windows.specs.Steps.Places.{place_joined, gathered_at}
@@ -18,7 +18,7 @@ four_block grows b n c d e f i p q r s en ec ed ee ef =
     (places_more grows n d e b i r at 2
     (places_more grows n c d b i q at 1
     (places_more grows n n c b i p at 0
-    (places_none grows n b i at (ap length en ∙ length_replicate 64 (start_by grows 255))) refl ec) refl ed)
+    (places_none grows n b i at (ap length en ∙ length-replicate 64 (start_by grows 255))) refl ec) refl ed)
     refl ee) refl ef)
   where
     at : List ℕ

@@ -1,6 +1,8 @@
 // Windows of 4 and 16 points of a packed row, and what stands at four places of it, in place, a block at a
 // time. Crate windows does as much for the one-bit row routine; rectangles have code of their own, since
 // what two call is taken into neither, and the routine's stack is limited.
+#![tactic(auto)]
+
 ghost use Rattle.std.specs.Prelude.{◌≡◌, [], ◌∷◌, ◌+◌, ◌*◌, ◌/◌, ◌≤◌, length};
 ghost use Rattle.basics.specs.Lists.{firsts};
 ghost use Rattle.windows.specs.Steps.Widened.{widened_by, windows_of};

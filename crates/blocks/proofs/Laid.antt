@@ -2,7 +2,7 @@
 -- another.
 use Prim.Native.Nat.{ℕ, ◌+◌, ◌-◌, ◌≤◌, ◌<◌}
 use mathlib.Core.Path.{◌≡◌, refl, sym, ap, ap₂, ◌∙◌, subst}
-use mathlib.Core.Bool.{cond, ◌&&◌, and_false}
+use mathlib.Core.Bool.{cond, ◌&&◌, and-false}
 use mathlib.Core.List.{List}
 use mathlib.Core.Logic.{◌⊎◌, inl, inr, ⊎_elim}
 use native.Mathlib.Omega.{arith}
@@ -29,7 +29,7 @@ pub at_after : (a n : ℕ) (f g : ℕ → ℕ) (i : ℕ) → a + n ≤ i → lai
 unfolding laid_at
 at_after a n f g i h =
     ap (λ b. cond (leb a i && b) (f (i - a)) (g i)) (le-ltb i (a + n) h)
-    ∙ ap (λ b. cond b (f (i - a)) (g i)) (and_false (leb a i))
+    ∙ ap (λ b. cond b (f (i - a)) (g i)) (and-false (leb a i))
 
 -- before, within or after the n places from a on
 pub where_is : (a n i : ℕ) → (i < a) ⊎ (((a ≤ i) × (i < a + n)) ⊎ (a + n ≤ i))

@@ -1,5 +1,7 @@
 // Blocks of packed points: 64 bytes by value, which the compiler keeps in vector registers, also round a
 // loop.
+#![tactic(auto)]
+
 ghost use Rattle.std.specs.Prelude.{◌≡◌, ◌+◌, ◌≤◌, ◌<◌, length, get_or};
 ghost use Rattle.rows.specs.Steps.Fold.{start_by};
 ghost use Rattle.blocks.specs.Steps.Joins.{join_packed};

@@ -1,4 +1,6 @@
 // Which sums of cells a chain of links reaches inside a box of offsets, on boards of row words.
+#![tactic(auto)]
+
 ghost use Rattle.std.specs.Prelude.{◌≡◌, ◌≤◌, ◌<◌, take};
 ghost use Rattle.element.specs.Descriptor.{most_cells};
 ghost use Rattle.morphology.specs.Chain.{most_link_cells};

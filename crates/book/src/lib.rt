@@ -1,5 +1,7 @@
 // The element book: descriptors of the display and of the export, kept under numbers in one lent buffer.
 // Nothing is asked of the caller: bytes that are no book, or a damaged one, are refused by BOOK.
+#![tactic(auto)]
+
 ghost use Rattle.std.specs.Prelude.{◌≡◌, [], ◌∷◌, ◌++◌, ◌≤◌, length, drop};
 ghost use Rattle.answer.specs.Answer.{told};
 ghost use Rattle.share.specs.Maps.{Put, Get, Remove, Tidy};
@@ -10,7 +12,7 @@ ghost use Rattle.book.specs.Book.{book_answer, book_handed, book_after, place_in
 use answer::Answer;
 
 // Whose numbers they are.
-#[derive(Drop)]
+#[derive(Clone, Copy)]
 pub enum Party {
     Display,
     Export,
@@ -33,7 +35,7 @@ pub const BOOK: usize = HEAD + 2 * SHARE;
 
 // What is found under a number: the answer, and the place and the length of the descriptor in the book,
 // 0 and 0 where it is refused.
-#[derive(Drop)]
+#[derive(Clone, Copy)]
 pub struct Found {
     pub answer: Answer,
     pub place: usize,

@@ -1,6 +1,8 @@
 // Runs the histories of its input, a line each, and prints of each call what it answers,
 // of a get the bytes too, and at the end every byte of the book.
 // tools/cases makes the lines, says what their letters and numbers mean, and makes what must be printed.
+#![tactic(auto)]
+
 use answer::Answer;
 use book::Party;
 use libc::STDIN_FILENO;

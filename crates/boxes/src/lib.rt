@@ -1,4 +1,6 @@
 // Whether an element is a rectangle.
+#![tactic(auto)]
+
 ghost use Rattle.std.specs.Prelude.{◌≡◌, ◌≤◌, length};
 ghost use Rattle.boxes.specs.Steps.Box.{is_box};
 

@@ -1,4 +1,6 @@
 // Two rows of a result by a rectangle, one after the other, in the room of one padded row.
+#![tactic(auto)]
+
 ghost use Rattle.std.specs.Prelude.{◌≡◌, ◌+◌, ◌*◌, ◌≤◌, ◌<◌, length, get_or};
 ghost use Rattle.basics.specs.Bytes.{Bytes};
 ghost use Rattle.basics.specs.Lists.{firsts};

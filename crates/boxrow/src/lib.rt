@@ -1,4 +1,6 @@
 // One row of a result by a run of cells, at either depth, from a padded row: windows along it.
+#![tactic(auto)]
+
 ghost use Rattle.std.specs.Prelude.{◌≡◌, true, false, ◌+◌, ◌≤◌, ◌<◌, length, get_or};
 ghost use Rattle.basics.specs.Bytes.{Bytes};
 ghost use Rattle.basics.specs.Lists.{firsts};

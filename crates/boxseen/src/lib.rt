@@ -1,4 +1,6 @@
 // The rows that two rows of a result see by the rows of a rectangle, joined down the columns.
+#![tactic(auto)]
+
 ghost use Rattle.std.specs.Prelude.{◌≡◌, ◌-◌, length};
 ghost use Rattle.basics.specs.Lists.{firsts};
 ghost use Rattle.boxseen.specs.Steps.Seen.{upper_at, lower_at, LeadFit};

@@ -2,6 +2,8 @@
 // By them it goes a source row at a time: the row stands between what counts beyond the frame, and all cells
 // of an element row are joined from it into the row of the result that sees it.
 // The target's own rows gather them, in any order.
+#![tactic(auto)]
+
 ghost use Rattle.std.specs.Prelude.{◌≡◌, true, ◌+◌, ◌*◌, ◌/◌, ◌≤◌, ◌<◌, length, get_or, replicate, take, drop};
 ghost use Rattle.element.specs.Descriptor.{most_cells};
 ghost use Rattle.picture.specs.Frame.{most_pings, Holds};

@@ -5,7 +5,7 @@ use mathlib.Core.Bool.{Bool, false}
 use mathlib.Core.List.{List}
 use mathlib.Core.Logic.{⊎_elim}
 use native.Mathlib.Omega.{arith}
-use lib.ListN.{length, get_or, replicate, length_replicate, get_or-replicate}
+use lib.ListN.{length, get_or, replicate, length-replicate, get_or-replicate}
 use Rattle.rows.specs.Steps.Fold.{start_by}
 use Rattle.blocks.specs.Steps.Laid.{laid}
 use Rattle.blocks.proofs.Laid.{get_in, get_first, get_before, get_after, where_is, length_laid}
@@ -49,7 +49,7 @@ module _ (grows : Bool) (s : List ℕ) where
           r = replicate 2464 (start_by grows 255)
 
           long : length r ≡ 2464
-          long = length_replicate {A = ℕ} 2464 (start_by grows 255)
+          long = length-replicate {A = ℕ} 2464 (start_by grows 255)
 
           fits : base + q < length r
           fits = subst (λ n. base + q < n) (sym long) (omega arith)

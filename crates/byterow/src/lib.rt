@@ -1,4 +1,6 @@
 // One row of an 8-bit result by all the rows of an element, flat or weighted.
+#![tactic(auto)]
+
 ghost use Rattle.std.specs.Prelude.{◌≡◌, ◌<◌, length};
 ghost use Rattle.picture.specs.Points.{value_at};
 ghost use Rattle.rows.specs.Steps.Ready.{Ready};

@@ -1,5 +1,7 @@
 // The ways that an 8-bit picture goes by a flat element: as a rectangle, straight from the source, by source
 // rows. Which one is a matter of time alone: the promise is the same.
+#![tactic(auto)]
+
 ghost use Rattle.std.specs.Prelude.{◌≡◌, length};
 ghost use Rattle.picture.specs.Frame.{Holds, frame};
 ghost use Rattle.picture.specs.Points.{value_at};

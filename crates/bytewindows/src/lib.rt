@@ -1,5 +1,7 @@
 // Windows of 4 and 16 values of a row of bytes, in place, a block at a time;
 // and what stands at four places of it, laid over a row.
+#![tactic(auto)]
+
 ghost use Rattle.std.specs.Prelude.{◌≡◌, ◌+◌, ◌-◌, ◌*◌, ◌≤◌, length, get_or};
 ghost use Rattle.basics.specs.Lists.{firsts};
 ghost use Rattle.blocks.specs.Steps.Laid.{laid};

@@ -1,4 +1,6 @@
 // The candidates of a search for a chain: the links that are made of what was measured of an element.
+#![tactic(auto)]
+
 ghost use Rattle.std.specs.Prelude.{◌≡◌, ◌++◌, ◌*◌, ◌≤◌, ◌<◌, length, drop};
 ghost use Rattle.basics.specs.Lists.{firsts, joined};
 ghost use Rattle.morphology.specs.Chain.{most_links};
@@ -10,7 +12,7 @@ use reach::MOST_LINKS;
 
 // A candidate: how much of a side, of an origin and of a cut a link takes at the most;
 // or the element's own cells as the one link.
-#[derive(Drop)]
+#[derive(Clone, Copy)]
 pub struct Try {
     pub side: usize,
     pub origin: usize,

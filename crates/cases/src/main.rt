@@ -2,6 +2,8 @@
 // flat and weighted operations, top-hats and gradients, hit-or-miss, chained runs, and copies.
 // One program, since what one costs the prover is mostly what all of these load.
 // tools/cases makes the lines, says what their letters and numbers mean, and makes what must be printed.
+#![tactic(auto)]
+
 ghost use Rattle.std.specs.Prelude.{◌≡◌, length};
 
 use answer::Answer;

@@ -1,4 +1,6 @@
 // One row of an element folded into a row of bytes: one pass over the row for each set cell.
+#![tactic(auto)]
+
 ghost use Rattle.std.specs.Prelude.{◌≡◌, cond, ◌+◌, ◌-◌, ◌*◌, ◌≤◌, ◌<◌, min, length};
 ghost use Rattle.element.specs.Descriptor.{most_cells};
 ghost use Rattle.element.specs.Record.{cell_on};

@@ -1,7 +1,7 @@
 -- The places that another column sees, found one after another.
 use Prim.Native.Nat.{ℕ, ◌+◌, ◌-◌, ◌*◌, ◌%◌, ◌≤◌, ◌<◌}
 use mathlib.Core.Path.{◌≡◌, refl, sym, ap, ◌∙◌, subst}
-use mathlib.Core.Bool.{Bool, true, false, cond, ◌&&◌, and_false}
+use mathlib.Core.Bool.{Bool, true, false, cond, ◌&&◌, and-false}
 use mathlib.Core.List.{List}
 use mathlib.Core.Logic.{⊎_elim}
 use native.Mathlib.Omega.{arith}
@@ -40,7 +40,7 @@ module _ (w back x : ℕ) where
 
   pub near_high : (p : ℕ) → w ≤ p % w + x - back → near_of w back x p ≡ false
   unfolding near_of
-  near_high p h = ap (λ t. leb back (p % w + x) && t) (le-ltb _ _ h) ∙ and_false (leb back (p % w + x))
+  near_high p h = ap (λ t. leb back (p % w + x) && t) (le-ltb _ _ h) ∙ and-false (leb back (p % w + x))
 
   pub picked_none : (at into : List ℕ) → length into ≡ 16 → Picked w back x at 0 0 into
   picked_none at into e =

@@ -2,6 +2,8 @@
 // In the middle of the picture every cell stands at the same distance from its point, across the ends of rows
 // too; what that makes of the points near an end is written over, column by column. The rows above and below
 // the middle are made row by row.
+#![tactic(auto)]
+
 ghost use Rattle.std.specs.Prelude.{◌≡◌, cond, ℕ, ◌+◌, ◌-◌, ◌*◌, ◌^◌, ◌≤◌, ◌<◌, length, get_or, set};
 ghost use Rattle.picture.specs.Frame.{most_pings, most_bins, frame};
 ghost use Rattle.picture.specs.Points.{value_at};

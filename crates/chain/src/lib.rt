@@ -1,4 +1,6 @@
 // Chains as descriptors: read one after another, and checked against the whole element.
+#![tactic(auto)]
+
 ghost use Rattle.std.specs.Prelude.{◌≡◌, true, ◌≤◌};
 ghost use Rattle.answer.specs.Answer.{told, plain};
 ghost use Rattle.answer.specs.Refuse.{refuse};
@@ -11,14 +13,14 @@ use answer::Answer;
 use reach::{Link, MOST_LINK_CELLS, MOST_LINKS};
 
 // What became of a chain's links: the first refusal, or done and the links.
-#[derive(Drop)]
+#[derive(Clone, Copy)]
 pub struct Links {
     pub answer: Answer,
     pub all: [Link; MOST_LINKS],
 }
 
 // What became of one.
-#[derive(Drop)]
+#[derive(Clone, Copy)]
 struct OneLink {
     answer: Answer,
     link: Link,

@@ -1,5 +1,7 @@
 // Chained erosion and dilation as a user calls them: each link in order,
 // into one of two work buffers and then the other.
+#![tactic(auto)]
+
 ghost use Rattle.std.specs.Prelude.{◌≡◌, min, length};
 ghost use Rattle.answer.specs.Answer.{told};
 ghost use Rattle.answer.specs.Lent.{unless_refused};

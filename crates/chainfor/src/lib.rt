@@ -1,5 +1,7 @@
 // A chain for an element: candidates in a stated order, and the first that the check accepts;
 // where it accepts none, a sum that the element is taken apart into.
+#![tactic(auto)]
+
 ghost use Rattle.std.specs.Prelude.{◌≡◌, length};
 ghost use Rattle.chainfor.specs.Find.{accepts, first_try, FoundAs, chain_left};
 ghost use Rattle.chainfor.specs.Steps.Summed.{SumAs, sum_left};
@@ -17,7 +19,7 @@ const MOST_SPAN: usize = MOST_LINKS * (MOST_LINK_CELLS - 1);
 
 // What the search found: where it is done, the number of links and of bytes written;
 // where it is refused as NOCHAIN, whether the search gave up. Where it did not, no chain exists.
-#[derive(Drop)]
+#[derive(Clone, Copy)]
 pub struct Found {
     pub answer: Answer,
     pub links: usize,
@@ -81,7 +83,7 @@ fn find_sum(element: &[u8], way: Way, chain: &mut [u8]) -> Found
     if chain.len() < n {
         return refused(Answer::Room, false);
     }
-    bytes::copy(&work[..n], chain);
+    basics::copy(&work[..n], chain);
     Found {
         answer: Answer::Done,
         links,

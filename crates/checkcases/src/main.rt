@@ -1,6 +1,8 @@
 // Runs the jobs of its input, a line each: checks of chains, of which it prints what they answer,
 // the finder, of which it prints the picture, and the search for a chain, of which it prints the chain.
 // tools/cases makes the lines, says what their letters and numbers mean, and makes what must be printed.
+#![tactic(auto)]
+
 use answer::Answer;
 use libc::{STDIN_FILENO, STDOUT_FILENO};
 use lines::Head;

@@ -1,5 +1,7 @@
 // The links to choose from when a board is taken apart: those that divide it,
 // each with the first origin that suits all four quarters.
+#![tactic(auto)]
+
 ghost use Rattle.std.specs.Prelude.{◌≡◌, ◌≤◌};
 ghost use Rattle.choosing.specs.Link.{link_no, fits, quarter_suits, suits, origin_for, origin_no};
 

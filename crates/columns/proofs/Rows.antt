@@ -7,7 +7,7 @@ use mathlib.Core.Logic.{⊎_elim}
 use native.Mathlib.Omega.{arith}
 use native.Mathlib.Nat.{mul-le-mul_right}
 use native.Mathlib.Numerals.{add-one}
-use lib.ListN.{length, get_or, replicate, get_or-replicate, length_replicate}
+use lib.ListN.{length, get_or, replicate, get_or-replicate, length-replicate}
 use Rattle.basics.specs.Lists.{firsts}
 use Rattle.basics.proofs.Lists.{get_d_firsts, firsts_same, list_is}
 use Rattle.basics.proofs.SliceParts.{below_or_not}
@@ -50,7 +50,7 @@ module _ (packed grows : Bool) (s : List ℕ) (n lo : ℕ) where
   pub block_none : (i : ℕ) (c : List ℕ) (z : ℕ) → z ≡ start_by grows 255 → c ≡ replicate 64 z
       → c ≡ firsts (λ m. down_at packed grows s n lo 0 (i + m)) 64
   block_none i c z ez e =
-      list_is _ 64 c (ap length e ∙ length_replicate 64 z)
+      list_is _ 64 c (ap length e ∙ length-replicate 64 z)
       (λ m h. ap (λ l. get_or l m 0) e ∙ get_or-replicate 64 m z 0 h ∙ ez ∙ down_none (i + m))
 
   pub block_more : (v i : ℕ) (c d : List ℕ) → c ≡ firsts (λ m. down_at packed grows s n lo v (i + m)) 64

@@ -1,4 +1,6 @@
 // Rows of a picture joined down the columns, for two rows of a result at a time, at either depth.
+#![tactic(auto)]
+
 ghost use Rattle.std.specs.Prelude.{◌≡◌, ◌+◌, ◌*◌, ◌^◌, ◌≤◌, ◌<◌, max, length, get_or};
 ghost use Rattle.basics.specs.Lists.{firsts};
 ghost use Rattle.columns.specs.Steps.Down.{down_at, also_at, Pair, Inside};

@@ -1,5 +1,7 @@
 // The copy of a picture, as it is or turned over, whatever its padding: the padding of the copy is 0.
 // And the padding of a picture cleared where it stands.
+#![tactic(auto)]
+
 ghost use Rattle.std.specs.Prelude.{◌≡◌, false, ◌+◌, ◌*◌, ◌≤◌, ◌<◌, length};
 ghost use Rattle.basics.specs.Lists.{firsts};
 ghost use Rattle.picture.specs.Frame.{Holds};

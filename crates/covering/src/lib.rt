@@ -1,5 +1,7 @@
 // Whether a link and what it leaves make up a board again:
 // of the whole board, and of its four quarters about an origin.
+#![tactic(auto)]
+
 ghost use Rattle.std.specs.Prelude.{◌≡◌};
 ghost use Rattle.covering.specs.Cover.{added, sum_row, bare, first_bare};
 ghost use Rattle.covering.specs.Quarter.{beside, side_of, quarter_row, quarter, link_columns};

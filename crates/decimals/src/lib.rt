@@ -1,4 +1,6 @@
 // Numbers in decimal put at a place of a buffer, by themselves or after bytes; each gives the next place.
+#![tactic(auto)]
+
 ghost use Rattle.std.specs.Prelude.{◌≡◌, ◌++◌, ◌+◌, ◌≤◌, length};
 ghost use Rattle.digits.specs.Put.{put};
 ghost use Rattle.digits.specs.Decimal.{digit, decimal};

@@ -1,4 +1,6 @@
 // Which bytes are a descriptor, and which a weighted one.
+#![tactic(auto)]
+
 ghost use Rattle.std.specs.Prelude.{◌≡◌, ◌≤◌};
 ghost use Rattle.element.specs.Descriptor.{head_made, cells_made, well_made};
 ghost use Rattle.element.specs.Descriptor.{well_weighted};

@@ -1,5 +1,7 @@
 // White top-hat, black top-hat and gradient as a user calls them:
 // the answer and every lent byte are settled for all inputs.
+#![tactic(auto)]
+
 ghost use Rattle.std.specs.Prelude.{◌≡◌, min, length};
 ghost use Rattle.answer.specs.Answer.{told};
 ghost use Rattle.picture.specs.declared.Depth.TheVariants.{OneBit, EightBit};
@@ -19,7 +21,7 @@ use less::From;
 use picture::Depth;
 
 // Which of the three.
-#[derive(Drop)]
+#[derive(Clone, Copy)]
 enum Which {
     White,
     Black,

@@ -1,4 +1,6 @@
 // Bytes put at a place of a buffer, one after another; each gives the next place.
+#![tactic(auto)]
+
 ghost use Rattle.std.specs.Prelude.{◌≡◌, [], ◌∷◌, ◌+◌, ◌≤◌, ◌<◌, length};
 ghost use Rattle.digits.specs.Put.{put};
 
@@ -18,5 +20,5 @@ pub fn put_bytes(t: &mut [u8], at: usize, s: &[u8]) -> usize
     ensures value { result ≡ at + length s.now }
     ensures t_after { t.new ≡ put at s.now t.old }
 {
-    at + bytes::copy(s, &mut t[at..])
+    at + basics::copy(s, &mut t[at..])
 }

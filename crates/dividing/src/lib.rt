@@ -1,6 +1,8 @@
 // A board of 64 x 64 cells, and what is left of it when a link of at most 8 x 8 is taken out:
 // the places where all cells of the link are set.
 // A link is one word, row by row, its first cell the highest bit.
+#![tactic(auto)]
+
 ghost use Rattle.std.specs.Prelude.{◌≡◌, ◌≤◌};
 ghost use Rattle.dividing.specs.Board.{turned, is_set, cell_of, first_cell, last_cell, window};
 ghost use Rattle.dividing.specs.Divide.{met, rest_row, rest_of};

@@ -1,4 +1,6 @@
 // What echtext prints of a picture.
+#![tactic(auto)]
+
 ghost use Rattle.std.specs.Prelude.{◌≡◌, ◌++◌, ◌+◌, ◌*◌, ◌≤◌, ◌<◌, length, drop};
 ghost use Rattle.basics.specs.Lists.{joined};
 ghost use Rattle.digits.specs.Put.{put};

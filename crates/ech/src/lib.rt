@@ -1,4 +1,6 @@
 // The ECH file, version 1, read.
+#![tactic(auto)]
+
 ghost use Rattle.std.specs.Prelude.{◌≡◌, ◌≤◌, length};
 ghost use Rattle.ech.specs.File.{two_bytes, known_kind, depth_of, face_of, reported};
 ghost use Rattle.ech.specs.File.{reported_kind, formed, pings_of, bins_of};
@@ -13,7 +15,7 @@ use picture::{Depth, Face};
 pub const HEAD: usize = 10;
 
 // What a file that was read says of its picture: all 0 where it was refused.
-#[derive(Drop)]
+#[derive(Clone, Copy)]
 pub struct Header {
     pub answer: Answer,
     pub kind: usize,

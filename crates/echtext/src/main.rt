@@ -1,4 +1,6 @@
 // echtext: a job from standard input, its text to standard output. All of the work is crate job's.
+#![tactic(auto)]
+
 ghost use Rattle.std.specs.Prelude.{◌≡◌};
 ghost use Rattle.answer.specs.Answer.{told, plain};
 

@@ -1,4 +1,6 @@
 // The ECH file, version 1, written.
+#![tactic(auto)]
+
 ghost use Rattle.std.specs.Prelude.{◌≡◌, true, ◌++◌, ◌+◌, ◌≤◌, length, drop};
 ghost use Rattle.answer.specs.Answer.{told, plain};
 ghost use Rattle.answer.specs.Refuse.{refuse};
@@ -36,7 +38,7 @@ fn put_file(kind: usize, w: usize, h: usize, source: &[u8], target: &mut [u8])
 {
     let depth = ech::depth_of(kind);
     let head = head_of(kind, w, h);
-    bytes::copy(&head, target);
+    basics::copy(&head, target);
     copies::copy_picture(depth, Face::AsIs, source, &mut target[HEAD..], w, h);
 }
 

@@ -1,4 +1,6 @@
 // An element by value, and where its descriptor ends.
+#![tactic(auto)]
+
 ghost use Rattle.std.specs.Prelude.{◌≡◌, ◌+◌, ◌*◌, ◌≤◌, ◌<◌, length};
 ghost use Rattle.element.specs.Descriptor.{most_cells, cells_end, descriptor_length};
 ghost use Rattle.element.specs.Record.{cell_on, origin_of};
@@ -16,21 +18,21 @@ pub const SIGN_BIT: u8 = 128;
 pub type RowWord = u64;
 
 // An element's size and origin.
-#[derive(Drop)]
+#[derive(Clone, Copy)]
 pub struct Outline {
     pub w: usize,
     pub h: usize,
     pub origin: Point,
 }
 
-#[derive(Drop)]
+#[derive(Clone, Copy)]
 pub struct Element {
     pub outline: Outline,
     pub rows: [RowWord; MOST_CELLS],
 }
 
 // The array stands beside the answer.
-#[derive(Drop)]
+#[derive(Clone, Copy)]
 pub struct Read {
     pub answer: Answer,
     pub element: Element,

@@ -1,7 +1,7 @@
 -- An element's record has an offset: the tests in order, each of which settles the definition's own.
 use Prim.Native.Nat.{ℕ, ◌+◌, ◌-◌, ◌≤◌, ◌<◌}
 use mathlib.Core.Path.{◌≡◌, refl, sym}
-use mathlib.Core.Bool.{Bool, true, false, ◌&&◌, and_false}
+use mathlib.Core.Bool.{Bool, true, false, ◌&&◌, and-false}
 use mathlib.Core.List.{List}
 use borrow.Author.Tests.{le-leb, lt-leb, lt-ltb, le-ltb}
 use lib.ListN.{get_or}
@@ -15,20 +15,20 @@ use Rattle.reach.specs.Steps.Links.{place_of}
 module _ (o : Outline) (rows : List ℕ) (e : Offset) where
   pub off_left : e.x + o.origin.ping.0 < centre → false ≡ has_test (shape_by o rows) (place_of e)
   unfolding has_test step_test shape_of
-  off_left l = simp (lt-leb centre (e.x + o.origin.ping.0) l, and_false)
+  off_left l = simp (lt-leb centre (e.x + o.origin.ping.0) l, and-false)
 
   pub off_top : centre ≤ e.x + o.origin.ping.0 → e.y + o.origin.bin.0 < centre
       → false ≡ has_test (shape_by o rows) (place_of e)
   unfolding has_test step_test shape_of
-  off_top l t = simp (lt-leb centre (e.y + o.origin.bin.0) t, and_false)
+  off_top l t = simp (lt-leb centre (e.y + o.origin.bin.0) t, and-false)
 
   pub off_right : o.w ≤ e.x + o.origin.ping.0 - centre → false ≡ has_test (shape_by o rows) (place_of e)
   unfolding has_test step_test shape_of
-  off_right l = simp (le-ltb (e.x + o.origin.ping.0 - centre) o.w l, and_false)
+  off_right l = simp (le-ltb (e.x + o.origin.ping.0 - centre) o.w l, and-false)
 
   pub off_bottom : o.h ≤ e.y + o.origin.bin.0 - centre → false ≡ has_test (shape_by o rows) (place_of e)
   unfolding has_test step_test shape_of
-  off_bottom l = simp (le-ltb (e.y + o.origin.bin.0 - centre) o.h l, and_false)
+  off_bottom l = simp (le-ltb (e.y + o.origin.bin.0 - centre) o.h l, and-false)
 
   pub cell_there : centre ≤ e.x + o.origin.ping.0 → centre ≤ e.y + o.origin.bin.0
       → e.x + o.origin.ping.0 - centre < o.w → e.y + o.origin.bin.0 - centre < o.h

@@ -1,5 +1,7 @@
 // The chain check on elements by value:
 // the first offset, in row order, at which an element and the chain of its links part.
+#![tactic(auto)]
+
 ghost use Rattle.std.specs.Prelude.{◌≡◌, ◌≤◌, ◌<◌, take};
 ghost use Rattle.answer.specs.Answer.{told};
 ghost use Rattle.element.specs.Descriptor.{most_cells};

@@ -1,5 +1,7 @@
 // An 8-bit picture by a flat element of at most 16 cells: they are listed once, and the picture is made
 // straight from the source.
+#![tactic(auto)]
+
 ghost use Rattle.std.specs.Prelude.{◌≡◌, cond, ◌+◌, ◌^◌, ◌<◌, ltb, length, set};
 ghost use Rattle.picture.specs.Frame.{Holds, frame};
 ghost use Rattle.picture.specs.Points.{value_at};

@@ -1,4 +1,6 @@
 // The finder of a chained run's last picture: its own bytes, out of the two work buffers.
+#![tactic(auto)]
+
 ghost use Rattle.std.specs.Prelude.{◌≡◌};
 ghost use Rattle.finder.specs.Finder.{is_there, found_at, place_at};
 

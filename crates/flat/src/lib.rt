@@ -1,6 +1,8 @@
 // Flat erosion, dilation, opening and closing as a user calls them:
 // the answer and every lent byte are settled for all inputs.
 // Each depth has functions of its own below, and so a stack of its own.
+#![tactic(auto)]
+
 ghost use Rattle.std.specs.Prelude.{◌≡◌, min, length};
 ghost use Rattle.answer.specs.Answer.{told};
 ghost use Rattle.picture.specs.declared.Depth.TheVariants.{OneBit, EightBit};

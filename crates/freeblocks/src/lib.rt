@@ -1,6 +1,8 @@
 // Blocks of a row joined with what the cells of a weighted element find, with nothing that holds the ends.
 // A value at the end that is not held makes no more than the size of a height: where all values of a block
 // come out beyond the sizes, none of them was made so. From the first block that shows one, ends are held.
+#![tactic(auto)]
+
 ghost use Rattle.std.specs.Prelude.{◌≡◌, true, false, ◌+◌, ◌-◌, ◌*◌, ◌/◌, ◌≤◌, ◌<◌, length, get_or};
 ghost use Rattle.basics.specs.Lists.{firsts};
 ghost use Rattle.picture.specs.Frame.{most_pings};

@@ -1,5 +1,7 @@
 // What stands at several places of a picture's bytes, joined, where the places move on together:
 // a block of 64 results at a time, or one result after another at equal steps.
+#![tactic(auto)]
+
 ghost use Rattle.std.specs.Prelude.{◌≡◌, ℕ, ◌+◌, ◌*◌, ◌≤◌, ◌<◌, length};
 ghost use Rattle.basics.specs.Lists.{firsts};
 ghost use Rattle.rows.specs.Steps.Fold.{start_by};

@@ -1,6 +1,8 @@
 // Runs the jobs of its input, a line each, and prints of each what it answers and every byte of the target:
 // markers grown inside masks.
 // tools/cases makes the lines, says what their letters and numbers mean, and makes what must be printed.
+#![tactic(auto)]
+
 use answer::Answer;
 use grown::Neighbours;
 use libc::STDIN_FILENO;

@@ -1,4 +1,6 @@
 // The heights of a weighted descriptor beside its cells.
+#![tactic(auto)]
+
 ghost use Rattle.std.specs.Prelude.{◌≡◌, length, eqb};
 ghost use Rattle.picture.specs.Frame.{Holds};
 ghost use Rattle.element.specs.Descriptor.{height_made, heights_made_in, heights_made};

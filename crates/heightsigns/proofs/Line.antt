@@ -6,7 +6,7 @@ use mathlib.Core.List.{List}
 use mathlib.Core.Logic.{◌⊎◌, inl, inr, ⊎_elim}
 use native.Mathlib.Omega.{arith}
 use lib.Dec.{eqb, leb, ltb}
-use lib.ListN.{length, get_or, take, replicate, length_replicate, get_or-replicate}
+use lib.ListN.{length, get_or, take, replicate, length-replicate, get_or-replicate}
 use lib.Seq.{get_or-take, length-take-le}
 use borrow.Author.Tests.{lt-ltb, le-leb, leb-true, ltb-true, ltb-false}
 use Rattle.basics.specs.Bytes.{Bytes}
@@ -55,7 +55,7 @@ row_padded grows s u few eu =
     r = replicate 1152 (start_by grows 255)
 
     long : length r ≡ 1152
-    long = length_replicate {A = ℕ} 1152 (start_by grows 255)
+    long = length-replicate {A = ℕ} 1152 (start_by grows 255)
 
 -- ---- places
 place_is : (grows : Bool) (o c : ℕ) → place_of grows o c ≡ 64 + plus_by grows o c - minus_by grows o c

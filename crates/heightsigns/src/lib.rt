@@ -1,4 +1,6 @@
 // The cells of one row of a weighted element, those that raise apart from those that do not.
+#![tactic(auto)]
+
 ghost use Rattle.std.specs.Prelude.{◌≡◌, cond, true, false, ◌+◌, ◌*◌, ◌≤◌, ◌<◌, length, get_or};
 ghost use Rattle.element.specs.Descriptor.{most_cells};
 ghost use Rattle.heightsigns.specs.Steps.Sides.{rises_of, side_of, size_of};
@@ -66,7 +68,7 @@ fn entry(place: usize, size: u8) -> u16
 }
 
 // How many cells of a row raise, and how many do not.
-#[derive(Drop)]
+#[derive(Clone, Copy)]
 pub struct Counts {
     pub rising: usize,
     pub others: usize,

@@ -1,5 +1,7 @@
 // Hit-or-miss of one-bit pictures as a user calls it:
 // the answer and every lent byte are settled for all inputs.
+#![tactic(auto)]
+
 ghost use Rattle.std.specs.Prelude.{◌≡◌, true, ◌<◌, length};
 ghost use Rattle.std.specs.Int.Bits.{bit_and};
 ghost use Rattle.answer.specs.Answer.{told, plain};

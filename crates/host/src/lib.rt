@@ -2,6 +2,8 @@
 // one number back. Nothing is asked of the host but that the buffers it lends do not overlap. The promises
 // are those of the library's own functions, with the answer packed. All that goes over a picture by an
 // element stands in this one crate, so that a board has the ways once.
+#![tactic(auto)]
+
 ghost use Rattle.std.specs.Prelude.{◌≡◌, min, length};
 ghost use Rattle.answer.specs.Packed.{packed};
 ghost use Rattle.picture.specs.Frame.{top};

@@ -2,6 +2,8 @@
 // the start, and for display and export each its own calls.
 // Nothing is asked of the host but that the buffers it lends do not overlap.
 // The promises are those of the library's own functions, with the answer packed.
+#![tactic(auto)]
+
 ghost use Rattle.std.specs.Prelude.{◌≡◌, ◌+◌, ◌*◌, ◌^◌, ◌<◌};
 ghost use Rattle.answer.specs.Packed.{packed};
 ghost use Rattle.share.specs.Maps.{Put, Remove, Tidy};

@@ -1,6 +1,8 @@
 // What a host program in C calls of files: ECH, PBM and PGM, read and written.
 // Nothing is asked of the host but that the buffers it lends do not overlap.
 // The promises are those of the library's own functions, with the answer packed.
+#![tactic(auto)]
+
 ghost use Rattle.std.specs.Prelude.{◌≡◌, ◌+◌, ◌*◌, ◌^◌, ◌≤◌};
 ghost use Rattle.answer.specs.Packed.{packed};
 ghost use Rattle.picture.specs.Frame.{most_pings, most_bins};

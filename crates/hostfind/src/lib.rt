@@ -1,6 +1,8 @@
 // What a host program in C calls to have a chain found for an element.
 // Nothing is asked of the host but that the buffers it lends do not overlap.
 // The promises are those of the library's own function, with the answer packed.
+#![tactic(auto)]
+
 ghost use Rattle.std.specs.Prelude.{◌≡◌, ◌+◌, ◌*◌, ◌^◌, ◌<◌, length};
 ghost use Rattle.chainfor.specs.Find.{chain_left};
 ghost use Rattle.hostfind.specs.Find.{flag_of, find_number};

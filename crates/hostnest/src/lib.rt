@@ -1,6 +1,8 @@
 // What a host program in C calls of the nesting of regions.
 // Nothing is asked of the host but that the buffers it lends do not overlap.
 // The promises are those of the library's own function, with the answer packed.
+#![tactic(auto)]
+
 ghost use Rattle.std.specs.Prelude.{◌≡◌, ◌+◌, ◌*◌, ◌^◌, length};
 ghost use Rattle.nesting.specs.Nesting.{nest_left, OfRegions};
 ghost use Rattle.hostnest.specs.Nest.{nest_number};

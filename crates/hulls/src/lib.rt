@@ -1,4 +1,6 @@
 // What is measured of an element before the search for a chain: its extent, and its hull with the origin.
+#![tactic(auto)]
+
 ghost use Rattle.std.specs.Prelude.{◌≡◌, ◌-◌, ◌≤◌, ◌<◌};
 ghost use Rattle.basics.specs.Lists.{firsts};
 ghost use Rattle.element.specs.Descriptor.{most_cells};
@@ -12,7 +14,7 @@ use reach::MOST_LINK_CELLS;
 
 // Where the set cells of an element lie: in which columns and rows,
 // and between which sums and differences of column and row, the latter with MOST_CELLS added.
-#[derive(Drop)]
+#[derive(Clone, Copy)]
 pub struct Extent {
     pub left: usize,
     pub right: usize,
@@ -26,7 +28,7 @@ pub struct Extent {
 
 // The origin, the first and the last set column, or row, counted from the lesser of origin and first;
 // and the greatest of them.
-#[derive(Drop)]
+#[derive(Clone, Copy)]
 pub struct Side {
     pub origin: usize,
     pub first: usize,
@@ -35,7 +37,7 @@ pub struct Side {
 }
 
 // The set cells and the origin, their corners cut, and the first rows of the cells as a link has them.
-#[derive(Drop)]
+#[derive(Clone, Copy)]
 pub struct Hull {
     pub across: Side,
     pub down: Side,

@@ -1,5 +1,7 @@
 // A job of echtext: its bytes in, the bytes of its text out.
 // Which job it is, is read here; crate work does the rest.
+#![tactic(auto)]
+
 ghost use Rattle.std.specs.Prelude.{◌≡◌, length};
 ghost use Rattle.answer.specs.Answer.{told};
 ghost use Rattle.work.specs.Prints.{over, Carried};
@@ -31,7 +33,7 @@ fn trailing_element() -> [u8; 8]
 }
 
 // What a letter asks for: nothing, where there is no such letter, and the job is then refused.
-#[derive(Drop)]
+#[derive(Clone, Copy)]
 enum Asked {
     For(Operation),
     Nothing,

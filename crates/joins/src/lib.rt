@@ -1,4 +1,6 @@
 // Two bytes joined at either depth, and a block of them: eight packed points at once, or one value.
+#![tactic(auto)]
+
 ghost use Rattle.std.specs.Prelude.{◌≡◌, ◌+◌, ◌≤◌, length};
 ghost use Rattle.joins.specs.Steps.Joins.{join_at, joined_at};
 

@@ -1,5 +1,7 @@
 // The tests that every call makes of a picture:
 // its size, its source, its padding, and the room that is lent for what is written.
+#![tactic(auto)]
+
 ghost use Rattle.std.specs.Prelude.{◌≡◌, length};
 ghost use Rattle.answer.specs.Answer.{told, plain};
 ghost use Rattle.answer.specs.Refuse.{refuse};
@@ -12,7 +14,7 @@ use answer::Answer;
 use picture::Depth;
 
 // The padding of a one-bit source is judged, or is free.
-#[derive(Drop)]
+#[derive(Clone, Copy)]
 pub enum Padding {
     Judged,
     Free,

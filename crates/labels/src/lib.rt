@@ -1,6 +1,8 @@
 // The regions of a one-bit picture found: each point is united with its like neighbours, in one scan,
 // and then each node has the first of its region under it.
 // Node 0 is what lies beyond the frame, node p + 1 is point p in row order.
+#![tactic(auto)]
+
 ghost use Rattle.std.specs.Prelude.{◌≡◌, ◌*◌, ◌≤◌, ◌<◌, length, get_or};
 ghost use Rattle.regions.specs.Regions.{point_of};
 ghost use Rattle.mates.specs.Steps.Framed.{Framed, Places};

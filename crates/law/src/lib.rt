@@ -1,1 +1,3 @@
 // The law behind the frame rule: definitions and proofs, no code.
+
+#![tactic(auto)]

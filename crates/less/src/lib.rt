@@ -1,5 +1,7 @@
 // One picture less another, made in the target:
 // of one bit set difference, of 8 bits the difference held at 0.
+#![tactic(auto)]
+
 ghost use Rattle.std.specs.Prelude.{◌≡◌, ◌-◌, ◌≤◌, length};
 ghost use Rattle.basics.specs.Zip.{zip_in};
 ghost use Rattle.picture.specs.Frame.{Holds};
@@ -10,7 +12,7 @@ ghost use Rattle.less.specs.Steps.Sides.{eight_of, own_of, less_byte, less_by, l
 use picture::Depth;
 
 // From which of the two the other is taken away.
-#[derive(Drop)]
+#[derive(Clone, Copy)]
 pub enum From {
     Target,
     Other,
@@ -18,7 +20,7 @@ pub enum From {
 
 // Depth and order as the loop has them: 8 bits to a point, else one;
 // the target less the other, else the other less the target.
-#[derive(Drop)]
+#[derive(Clone, Copy)]
 struct Sides {
     eight: bool,
     own: bool,

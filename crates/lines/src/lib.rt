@@ -1,5 +1,7 @@
 // Lines of jobs, as the programs of worked cases read them: a letter, numbers, and buffers.
 // tools/cases makes the lines, and says what their letters and numbers mean.
+#![tactic(auto)]
+
 ghost use Rattle.std.specs.Prelude.{◌≡◌, length};
 ghost use Rattle.io.specs.Counts.{IsPrefixLen};
 ghost use Rattle.lines.specs.Buffers.{last_with, buffer_at, filled_at};
@@ -9,7 +11,7 @@ use numbers::Found;
 use picture::Depth;
 
 // A job as its line begins, and where its buffers are.
-#[derive(Drop)]
+#[derive(Clone, Copy)]
 pub struct Head {
     pub letter: u8,
     pub depth: Depth,

@@ -1,6 +1,8 @@
 // Runs the jobs of its input, a line each, whose result is a list of numbers: the size spectrum, and which
 // echo lies inside which. It prints of each what it answers, and every number of the list.
 // tools/cases makes the lines, says what their letters and numbers mean, and makes what must be printed.
+#![tactic(auto)]
+
 ghost use Rattle.std.specs.Prelude.{◌<◌, length};
 
 use answer::Answer;

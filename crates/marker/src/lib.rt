@@ -1,5 +1,7 @@
 // What a call that grows a marker inside a mask is refused for, judged whole before a byte is written:
 // SIZE, SOURCE of the marker and of the mask, MARKER, ROOM.
+#![tactic(auto)]
+
 ghost use Rattle.std.specs.Prelude.{◌≡◌, not, ◌&&◌, [], ◌∷◌, ◌+◌, ◌*◌, ◌≤◌, ◌<◌, length};
 ghost use Rattle.answer.specs.Answer.{told, plain};
 ghost use Rattle.answer.specs.Refuse.{refuse};

@@ -1,5 +1,7 @@
 // The nodes that a point of a one-bit picture is united with: like neighbours before it, what lies beyond.
 // Node 0 is what lies beyond the frame, node p + 1 is point p in row order.
+#![tactic(auto)]
+
 ghost use Rattle.std.specs.Prelude.{◌≡◌, ◌*◌, ◌<◌, length};
 ghost use Rattle.regions.specs.Regions.{point_of};
 ghost use Rattle.mates.specs.Steps.Framed.{Framed};

@@ -1,5 +1,7 @@
 // One packed row of a one-bit result, for pictures of at most 128 pings: a row is held in words, and no
 // block is made. An erosion is the dilation of what is turned over, turned over.
+#![tactic(auto)]
+
 ghost use Rattle.std.specs.Prelude.{◌≡◌, cond, ℕ, ◌+◌, ◌-◌, ◌*◌, ◌≤◌, ◌<◌, max, ltb, length};
 ghost use Rattle.picture.specs.Frame.{row_bytes, most_bins};
 ghost use Rattle.packedline.specs.Steps.Line.{faced_point, pack_of};
@@ -17,7 +19,7 @@ use picture::{Bin, Depth};
 pub const MOST: usize = 128;
 
 // A padded row: 64 places beyond the frame, then the row. The first place is the highest bit of `a`.
-#[derive(Drop)]
+#[derive(Clone, Copy)]
 struct Strip {
     a: u64,
     b: u64,

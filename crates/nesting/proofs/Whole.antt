@@ -4,7 +4,7 @@ use mathlib.Core.Path.{◌≡◌, sym, ap, ap₂, ◌∙◌, subst}
 use mathlib.Core.Bool.{true}
 use mathlib.Core.List.{List, ◌++◌}
 use native.Mathlib.Omega.{arith}
-use lib.ListN.{length, take, drop, replicate, length_replicate}
+use lib.ListN.{length, take, drop, replicate, length-replicate}
 use Rattle.answer.specs.declared.Told.{Told}
 use Rattle.answer.specs.Answer.{plain, is_done}
 use Rattle.answer.specs.Refuse.{refuse}
@@ -80,7 +80,7 @@ module _ (s : List ℕ) (bytes w h : ℕ) (framed : Framed bytes w h) (L : List 
   n = h * w
 
   room : h * w < length blank
-  room = subst (λ m. h * w < m) (sym (length_replicate {A = ℕ} (most_points + 1) 0))
+  room = subst (λ m. h * w < m) (sym (length-replicate {A = ℕ} (most_points + 1) 0))
       (omega (arith, framed.few_points))
 
   firsts_of : Firsts w h (point_of s w) (at L)

@@ -2,6 +2,8 @@
 // each with its depth and its points.
 // The answer and every lent number are settled for all inputs.
 // A region is named by its first node: 0 for the outer one, p + 1 where its first point in row order is p.
+#![tactic(auto)]
+
 ghost use Rattle.std.specs.Prelude.{◌≡◌, cond, ◌∷◌, [], ◌++◌, ◌+◌, ◌*◌, ◌^◌, ◌≤◌, ◌<◌, eqb, length, take, drop};
 ghost use Rattle.answer.specs.Answer.{told, plain};
 ghost use Rattle.answer.specs.Refuse.{refuse};
@@ -23,7 +25,7 @@ const MOST_POINTS: usize = 16384;
 const MOST_REGIONS: usize = 255;
 
 // What comes back: the answer, and how many regions there are, 0 where refused.
-#[derive(Drop)]
+#[derive(Clone, Copy)]
 pub struct Nested {
     pub answer: Answer,
     pub regions: u32,

@@ -1,4 +1,6 @@
 // Raw PBM and raw PGM files, read: one reader over the depth, and two for users.
+#![tactic(auto)]
+
 ghost use Rattle.std.specs.Prelude.{◌≡◌, ◌&&◌, length};
 ghost use Rattle.pnmheader.specs.Header.{header};
 ghost use Rattle.pnmheader.specs.Steps.Held.{Says};
@@ -12,7 +14,7 @@ use picture::{Depth, Face};
 use pnmheader::Found;
 
 // What a file that was read says of its picture: all 0 where it was refused.
-#[derive(Drop)]
+#[derive(Clone, Copy)]
 pub struct Header {
     pub answer: Answer,
     pub w: usize,

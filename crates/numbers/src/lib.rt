@@ -1,9 +1,11 @@
 // Numbers of a line of jobs, and where a line ends.
+#![tactic(auto)]
+
 ghost use Rattle.std.specs.Prelude.{◌≡◌, ◌<◌, ◌≤◌, length};
 ghost use Rattle.numbers.specs.Numbers.{more, number_at, line_end};
 
 // A number of a line, and where the next one is.
-#[derive(Drop)]
+#[derive(Clone, Copy)]
 pub struct Found {
     pub value: usize,
     pub next: usize,

@@ -1,7 +1,7 @@
 -- A shared offset as the loops find it is the definition's.
 use Prim.Native.Nat.{ℕ, ◌≤◌, ◌<◌}
 use mathlib.Core.Path.{◌≡◌, refl, sym, ap, ap₂, ◌∙◌}
-use mathlib.Core.Bool.{Bool, true, false, cond, ◌&&◌, and_false}
+use mathlib.Core.Bool.{Bool, true, false, cond, ◌&&◌, and-false}
 use mathlib.Core.List.{List}
 use lib.ListN.{get_or}
 use Rattle.basics.specs.Tests.{any}
@@ -37,7 +37,7 @@ module _ (word beside : ℕ) (first second : Outline) (c v : ℕ) where
     cell_none l =
         sym (ap (λ b. cell_on word c && (cell_on beside (moved c o' o) && b))
         (place_out second.w c o' o v ev l)
-        ∙ ap (λ b. cell_on word c && b) (and_false (cell_on beside (moved c o' o))) ∙ and_false (cell_on word c))
+        ∙ ap (λ b. cell_on word c && b) (and-false (cell_on beside (moved c o' o))) ∙ and-false (cell_on word c))
 
     pub cell_both : (b : Bool) → cell_on word c ≡ true → v < second.w → b ≡ cell_on beside v
         → b ≡ cell_shared word beside first second c
@@ -93,8 +93,8 @@ module _ (first : Outline) (words : List ℕ) (second : Outline) (others : List 
       by true = any_same _ _ first.w (λ c l. ap (λ q. a c && (b c && q)) (sym (and_true (p c))))
       by false =
           sym (any_never _ first.w (λ c.
-          ap (λ q. a c && (b c && q)) (and_false (p c))
-          ∙ ap (λ q. a c && q) (and_false (b c)) ∙ and_false (a c)))
+          ap (λ q. a c && (b c && q)) (and-false (p c))
+          ∙ ap (λ q. a c && q) (and-false (b c)) ∙ and-false (a c)))
 
   -- all rows
   lines_are : any (line_shared first words second others) first.h

@@ -1,4 +1,6 @@
 // Whether two elements share an offset. Offsets are compared and not cells, since origins may differ.
+#![tactic(auto)]
+
 ghost use Rattle.std.specs.Prelude.{◌≡◌, ◌≤◌, ◌<◌, length};
 ghost use Rattle.element.specs.Descriptor.{most_cells};
 ghost use Rattle.element.specs.Record.{shape_by};

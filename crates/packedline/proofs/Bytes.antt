@@ -9,7 +9,7 @@ use native.Mathlib.Nat.{mod-lt, lt_of_le_of_lt, eq-or-lt_of_le}
 use lib.Dec.{leb, ltb, eqb, lit<}
 use lib.Pow.{pow_pos, shr_le}
 use lib.Bits.{or_lt, and_lt}
-use lib.ListN.{length, get_or, set, replicate, length-set, length_replicate, get_or-replicate}
+use lib.ListN.{length, get_or, set, replicate, length-set, length-replicate, get_or-replicate}
 use lib.ListN.{get_or-eq_default}
 use lib.Seq.{get_or-set_same, get_or-set_other}
 use Rattle.basics.proofs.Lists.{get_d_firsts}
@@ -58,7 +58,7 @@ bytes_set t k v bytes small i =
 pub bytes_replicate : (n v : ℕ) → v < 256 → Bytes (replicate n v)
 bytes_replicate n v small i =
     ⊎_elim (λ h. subst (λ m. m < 256) (sym (get_or-replicate n i v 0 h)) small)
-    (λ h. past (replicate n v) i (subst (λ m. m ≤ i) (sym (length_replicate n v)) h)) (below_or_not i n)
+    (λ h. past (replicate n v) i (subst (λ m. m ≤ i) (sym (length-replicate n v)) h)) (below_or_not i n)
 
 -- ---- windows
 eight_lt : (l : List ℕ) → Bytes l → (i d : ℕ) → eight_from l i d < 256

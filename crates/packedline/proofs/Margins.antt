@@ -8,7 +8,7 @@ use mathlib.Core.Logic.{⊎_elim}
 use native.Mathlib.Omega.{arith}
 use lib.Dec.{eqb, ltb, lit<}
 use lib.Pow.{pow_pos}
-use lib.ListN.{length, get_or, set, replicate, length-set, length_replicate, get_or-replicate}
+use lib.ListN.{length, get_or, set, replicate, length-set, length-replicate, get_or-replicate}
 use lib.Seq.{get_or-set_same, get_or-set_other}
 use borrow.Author.Tests.{eqb-true, eq-eqb, ne_eqb, lt-ltb, le-ltb}
 use Rattle.basics.specs.Bits.{bit}
@@ -96,7 +96,7 @@ blotted_set false v m k h hk e = bit_or_lem v m k ∙ ap (max (bit v k)) e ∙ m
 module _ (over grows : Bool) (s : List ℕ) (w : ℕ) (bytes : Bytes s) (some : 1 ≤ w) (few : w ≤ 1024)
     (len : length s ≡ (w + 7) / 8) where
   long : length (replicate 194 (start_by grows 255)) ≡ 194
-  long = length_replicate 194 (start_by grows 255)
+  long = length-replicate 194 (start_by grows 255)
 
   copied_long : length (copied_of over grows s) ≡ 194
   unfolding copied_of

@@ -1,5 +1,7 @@
 // One packed row by one row of an element, joined into a packed row, eight points at a time: none is
 // unpacked.
+#![tactic(auto)]
+
 ghost use Rattle.std.specs.Prelude.{◌≡◌, ◌+◌, ◌-◌, ◌/◌, ◌%◌, ◌^◌, ◌≤◌, ◌<◌, length, get_or, set, replicate};
 ghost use Rattle.std.specs.Int.Count.{count_leading_zeros, ones};
 ghost use Rattle.blocks.specs.Steps.Laid.{laid};

@@ -1,4 +1,6 @@
 // The unused low bits of a one-bit row's last byte.
+#![tactic(auto)]
+
 ghost use Rattle.std.specs.Prelude.{◌≡◌, ◌*◌, ◌≤◌, length};
 ghost use Rattle.picture.specs.Frame.{most_pings, spare_bits, Holds};
 ghost use Rattle.picture.specs.Bytes.{lasts_clear, padding_clear};

@@ -1,4 +1,6 @@
 // All sums of a chain's links, and whether a path leads to an offset.
+#![tactic(auto)]
+
 ghost use Rattle.std.specs.Prelude.{◌≡◌, take};
 ghost use Rattle.morphology.specs.Check.{path_test};
 ghost use Rattle.reach.specs.Steps.Links.{shapes_of, place_of, OneByte, Linked};

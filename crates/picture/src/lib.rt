@@ -1,5 +1,7 @@
 // The floor that every picture stands on:
 // pings and bins kept apart by kind, sizes, points in packed rows by shifts and masks.
+#![tactic(auto)]
+
 ghost use Rattle.std.specs.Prelude.{◌≡◌, cond, ◌≤◌};
 ghost use Rattle.picture.specs.Frame.{most_pings, sized_frame, row_bytes, picture_bytes};
 
@@ -9,26 +11,26 @@ pub const MOST_PINGS: usize = 1024;
 pub const MOST_BINS: usize = 256;
 
 // A column and a row: two kinds, so that neither passes for the other.
-#[derive(Drop)]
+#[derive(Clone, Copy)]
 pub struct Ping(pub u16);
 
-#[derive(Drop)]
+#[derive(Clone, Copy)]
 pub struct Bin(pub u16);
 
-#[derive(Drop)]
+#[derive(Clone, Copy)]
 pub struct Point {
     pub ping: Ping,
     pub bin: Bin,
 }
 
-#[derive(Drop)]
+#[derive(Clone, Copy)]
 pub enum Depth {
     OneBit,
     EightBit,
 }
 
 // A picture as it is, or with echo and no echo exchanged.
-#[derive(Drop)]
+#[derive(Clone, Copy)]
 pub enum Face {
     AsIs,
     TurnedOver,

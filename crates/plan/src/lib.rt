@@ -1,5 +1,7 @@
 // An operation and an element's outline in one number, the plan: handed on it takes one register, and
 // nothing of it stands on the stack.
+#![tactic(auto)]
+
 ghost use Rattle.std.specs.Prelude.{◌≡◌, cond, ◌≤◌};
 ghost use Rattle.plan.specs.Steps.Plan.{Small, plan_of, outline_by, grows_by};
 

@@ -1,7 +1,7 @@
 -- The magic, test after test.
 use Prim.Native.Nat.{ℕ, ◌≤◌, ◌<◌}
 use mathlib.Core.Path.{◌≡◌, sym, ap, ◌∙◌, subst}
-use mathlib.Core.Bool.{true, false, cond, ◌&&◌, and_false}
+use mathlib.Core.Bool.{true, false, cond, ◌&&◌, and-false}
 use mathlib.Core.List.{List}
 use native.Mathlib.Omega.{arith}
 use borrow.Author.Tests.{eq-eqb, ne_eqb}
@@ -24,7 +24,7 @@ too_short depth f h =
     sym (ap (λ b. eqb (get_or f 0 0) 80 && b)
     (ap (λ n. eqb n (magic_digit depth)) (get_or-eq_default f 0 {n = 1} (omega arith))
     ∙ ne_eqb 0 (magic_digit depth) (digit_some depth))
-    ∙ and_false (eqb (get_or f 0 0) 80))
+    ∙ and-false (eqb (get_or f 0 0) 80))
 
 pub other_letter : (depth : Depth) (f : List ℕ) → (get_or f 0 0 ≡ 80 → ⊥) → false ≡ marked depth f
 other_letter depth f n = simp (ne_eqb _ _ n)

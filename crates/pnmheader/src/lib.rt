@@ -1,5 +1,7 @@
 // The header of a raw PBM (P4) or PGM (P5) file, read byte by byte:
 // the size, the maximum, and where the raster begins.
+#![tactic(auto)]
+
 ghost use Rattle.std.specs.Prelude.{◌≡◌, min, ◌+◌, ◌-◌, ◌≤◌, ◌<◌, drop};
 ghost use Rattle.pnmheader.specs.Header.{is_white, is_digit, ends_line, ignored, open_after};
 ghost use Rattle.pnmheader.specs.Header.{after_white, after_digit, part_after, number_after};
@@ -19,7 +21,7 @@ const MAXIMUM: usize = 7;
 const TOO_LARGE: usize = 10000;
 
 // A header while it is read: the part that it has come to, whether a comment is open, and the numbers so far.
-#[derive(Drop)]
+#[derive(Clone, Copy)]
 pub struct Scan {
     pub part: usize,
     pub comment: bool,
@@ -29,7 +31,7 @@ pub struct Scan {
 }
 
 // What a header says, and where the raster begins; not whole, and all 0, where the header is broken.
-#[derive(Drop)]
+#[derive(Clone, Copy)]
 pub struct Found {
     pub whole: bool,
     pub w: usize,

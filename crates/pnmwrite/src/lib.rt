@@ -1,4 +1,6 @@
 // Raw PBM and raw PGM files, written: one writer over the depth, and two for users.
+#![tactic(auto)]
+
 ghost use Rattle.std.specs.Prelude.{◌≡◌, ◌++◌, ◌≤◌, length, drop};
 ghost use Rattle.answer.specs.Answer.{told};
 ghost use Rattle.digits.specs.Put.{put};

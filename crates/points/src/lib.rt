@@ -1,4 +1,6 @@
 // A point's value in packed rows, read and written by shifts and masks.
+#![tactic(auto)]
+
 ghost use Rattle.std.specs.Prelude.{◌≡◌, ◌^◌, ◌≤◌, length};
 ghost use Rattle.picture.specs.Frame.{most_pings};
 ghost use Rattle.picture.specs.Points.{column_byte, place, byte_at, value_in};

@@ -1,7 +1,7 @@
 -- The words of a board, bit by bit: they are the board's places.
 use Prim.Native.Nat.{ℕ, zero, suc, ◌+◌, ◌-◌, ◌*◌, ◌/◌, ◌%◌, ◌^◌, ◌≤◌, ◌<◌}
 use mathlib.Core.Path.{◌≡◌, refl, sym, ap, ap₂, ◌∙◌}
-use mathlib.Core.Bool.{Bool, true, false, cond, ◌&&◌, ◌||◌, or_false, or_assoc}
+use mathlib.Core.Bool.{Bool, true, false, cond, ◌&&◌, ◌||◌, or-false, or_assoc}
 use mathlib.Core.List.{List, [], ◌∷◌}
 use native.Mathlib.Omega.{arith}
 use native.Mathlib.Decide.{dec_le}
@@ -62,7 +62,7 @@ spread_bit : (acc line cells n X : ℕ) → X < 64
     → on (spread_of acc line cells n) X
     ≡ (on acc X || any (λ c. cell_on cells c && (leb c X && on line (X - c))) n)
 unfolding spread_of any
-spread_bit acc line cells zero X h = sym (or_false (on acc X))
+spread_bit acc line cells zero X h = sym (or-false (on acc X))
 spread_bit acc line cells (suc n) X h =
     on_or (spread_of acc line cells n) (moved_of line cells n) X
     ∙ ap₂ (λ s t. s || t) (spread_bit acc line cells n X h) (moved_bit line cells n X h)

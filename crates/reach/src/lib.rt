@@ -1,4 +1,6 @@
 // Links as the check of a chain holds them, and boards of the sums that they reach.
+#![tactic(auto)]
+
 ghost use Rattle.std.specs.Prelude.{◌≡◌};
 ghost use Rattle.reach.specs.Steps.Links.{first_rows, link_by, no_link, OneByte};
 ghost use Rattle.reach.specs.Steps.Boards.{holds_of, Small};
@@ -17,28 +19,28 @@ pub const SUMS: usize = MOST_LINKS * (MOST_LINK_CELLS - 1) + 1;
 
 // A link as the check holds it: an element's size and origin, and as many rows as a link has.
 // It is what the loops copy; an element is eight times as long.
-#[derive(Drop)]
+#[derive(Clone, Copy)]
 pub struct Link {
     pub outline: Outline,
     pub rows: [RowWord; MOST_LINK_CELLS],
 }
 
 // A sum of columns and a sum of rows.
-#[derive(Drop)]
+#[derive(Clone, Copy)]
 pub struct Sum {
     pub column: usize,
     pub row: usize,
 }
 
 // An offset, each coordinate with CENTRE added.
-#[derive(Drop)]
+#[derive(Clone, Copy)]
 pub struct Offset {
     pub x: usize,
     pub y: usize,
 }
 
 // A box of offsets, its ends included, each with CENTRE added.
-#[derive(Drop)]
+#[derive(Clone, Copy)]
 pub struct Bounds {
     pub left: usize,
     pub right: usize,
@@ -48,7 +50,7 @@ pub struct Bounds {
 
 // The sums of columns and rows whose offsets lie in a box:
 // from left to before right, from top to before bottom.
-#[derive(Drop)]
+#[derive(Clone, Copy)]
 pub struct Cut {
     pub left: usize,
     pub right: usize,
@@ -58,7 +60,7 @@ pub struct Cut {
 
 // The sums reached, bit X of word Y for the sums X and Y;
 // and the sum of the links' origins, which stands for the offset (0, 0).
-#[derive(Drop)]
+#[derive(Clone, Copy)]
 pub struct Board {
     pub words: [u64; SUMS],
     pub origin: Sum,

@@ -1,5 +1,7 @@
 // Reconstruction as a user calls it: the marker grown inside the mask, in the target, until nothing changes.
 // The answer and every lent byte are settled for all inputs.
+#![tactic(auto)]
+
 ghost use Rattle.std.specs.Prelude.{◌≡◌, false, ◌||◌, ◌+◌, ◌-◌, ◌*◌, ◌≤◌, ◌<◌, length};
 ghost use Rattle.answer.specs.Answer.{told};
 ghost use Rattle.picture.specs.Frame.{most_bins, frame, Holds};
@@ -17,7 +19,7 @@ use picture::{Depth, Face};
 use settle::Cell;
 
 // Rows of n bytes with u spare bits, h of them; the points aslant count or do not.
-#[derive(Drop)]
+#[derive(Clone, Copy)]
 struct Rows {
     square: bool,
     n: usize,

@@ -2,6 +2,8 @@
 // columns, two result rows at a time, and then windows along the row.
 // Each depth has its loop beside its room: a smaller function would be taken into its caller, and the room
 // with it, above whatever else the caller calls.
+#![tactic(auto)]
+
 ghost use Rattle.std.specs.Prelude.{◌≡◌, true, false, length};
 ghost use Rattle.picture.specs.declared.Depth.TheVariants.{OneBit, EightBit};
 ghost use Rattle.picture.specs.Frame.{Holds};

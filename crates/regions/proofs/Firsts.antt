@@ -6,7 +6,7 @@ use mathlib.Core.List.{List, [], ◌∷◌, ◌++◌}
 use native.Mathlib.Omega.{arith}
 use native.Mathlib.Nat.{le_antisymm}
 use lib.Dec.{eqb}
-use lib.ListN.{length, get_or, replicate, length_replicate}
+use lib.ListN.{length, get_or, replicate, length-replicate}
 use Rattle.regions.specs.Regions.{point_of, Linked, beyond, beside, Joined, here, onward, back, Firsts}
 use Rattle.regions.specs.Steps.Union.{labelled}
 use Rattle.regions.specs.Listing.{left_of, parent_of, count_of, where_in, walk, line, listing, inner_of}
@@ -37,7 +37,7 @@ firsts_exist s zero h =
 firsts_exist s (suc w) h =
     let l : List ℕ = replicate (h * suc w + 1) 0 in (
       λ a. get_or (labelled s (suc w) h l) a 0,
-      labels_first s (suc w) h l (omega arith) (omega (arith, length_replicate {A = ℕ} (h * suc w + 1) 0)),
+      labels_first s (suc w) h l (omega arith) (omega (arith, length-replicate {A = ℕ} (h * suc w + 1) 0)),
     )
 
 -- ---- the first nodes hang on the points of the frame alone

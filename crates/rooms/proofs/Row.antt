@@ -5,7 +5,7 @@ use mathlib.Core.Path.{◌≡◌, refl, sym, ap, ap₂, ◌∙◌, subst}
 use mathlib.Core.List.{List}
 use mathlib.Core.Logic.{⊎_elim}
 use native.Mathlib.Omega.{arith}
-use lib.ListN.{length, get_or, replicate, length_replicate}
+use lib.ListN.{length, get_or, replicate, length-replicate}
 use Rattle.basics.specs.Lists.{firsts}
 use Rattle.basics.proofs.Lists.{get_d_firsts, firsts_same}
 use Rattle.basics.proofs.SliceParts.{below_or_not}
@@ -75,7 +75,7 @@ module _ (F : ℕ → ℕ → ℕ) (t : List ℕ) where
       (λ j h. got _ e ee j (omega arith)
       ∙ ap₂ F (ap (λ l. get_or l j 0) ec
       ∙ get_first (length t) (λ m. get_or t (0 + m) 0) (replicate 64 0) j
-      (subst (λ m. length t ≤ m) (sym (length_replicate {A = ℕ} 64 0)) few) h ∙ ap (λ m. get_or t m 0) (none j))
+      (subst (λ m. length t ≤ m) (sym (length-replicate {A = ℕ} 64 0)) few) h ∙ ap (λ m. get_or t m 0) (none j))
       (none j))
     where
       none : (j : ℕ) → 0 + j ≡ j

@@ -1,6 +1,8 @@
 // Rooms: rows of bytes with what counts beyond the frame at both their ends, and their windows.
 // A room's windows are made in the other room, and what stands at several places is joined into a row,
 // a block at a time.
+#![tactic(auto)]
+
 ghost use Rattle.std.specs.Prelude.{◌≡◌, ◌+◌, ◌*◌, ◌/◌, ◌≤◌, length, get_or, replicate};
 ghost use Rattle.basics.specs.Lists.{firsts};
 ghost use Rattle.blocks.specs.Steps.Laid.{laid};

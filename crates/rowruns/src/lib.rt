@@ -1,5 +1,7 @@
 // The rows of a packed picture joined down its columns, in place and eight points at a time:
 // each with the rows that follow it, or for dilation with those before it.
+#![tactic(auto)]
+
 ghost use Rattle.std.specs.Prelude.{◌≡◌, ◌+◌, ◌-◌, ◌*◌, ◌≤◌, ◌<◌, length};
 ghost use Rattle.picture.specs.declared.Depth.TheVariants.{OneBit};
 ghost use Rattle.picture.specs.Frame.{most_bins, frame};

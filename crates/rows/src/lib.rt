@@ -1,5 +1,7 @@
 // The row of a source that a row of an element leads to, and what a fold starts from:
 // what one-bit rows and rows of bytes share.
+#![tactic(auto)]
+
 ghost use Rattle.std.specs.Prelude.{◌≡◌, length};
 ghost use Rattle.basics.specs.Lists.{firsts};
 ghost use Rattle.rows.specs.Steps.Ways.{grows_of};
@@ -8,7 +10,7 @@ ghost use Rattle.rows.specs.Steps.Row.{place_in, source_row};
 
 use picture::Bin;
 
-#[derive(Drop)]
+#[derive(Clone, Copy)]
 pub enum Way {
     Erode,
     Dilate,

@@ -1,4 +1,6 @@
 // A cell of a packed row, up to eight bytes of it as one word, and what a row gives to a cell beside it.
+#![tactic(auto)]
+
 ghost use Rattle.std.specs.Prelude.{◌≡◌, ◌+◌, ◌*◌, ◌^◌, ◌≤◌, ◌<◌, length};
 ghost use Rattle.settle.specs.Steps.Words.{word_of, byte_before, byte_from, across_of, spread_of};
 
@@ -7,7 +9,7 @@ const BYTES: usize = 8;
 
 // Rows of n bytes with u spare bits, h of them; and of row y the k bytes from byte j on.
 // The points aslant count, as with the square, or do not, as with the cross.
-#[derive(Drop)]
+#[derive(Clone, Copy)]
 pub struct Cell {
     pub square: bool,
     pub n: usize,

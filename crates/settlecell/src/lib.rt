@@ -1,5 +1,7 @@
 // A cell of a packed row grown in place inside the mask:
 // by what is set in it, beside it, above it and below it, until nothing in the cell changes.
+#![tactic(auto)]
+
 ghost use Rattle.std.specs.Prelude.{◌≡◌, not, ◌≤◌, ◌<◌, eqb, length};
 ghost use Rattle.basics.specs.Lists.{firsts};
 ghost use Rattle.settle.specs.Steps.Words.{once_in, flooded, byte_of};

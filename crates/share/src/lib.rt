@@ -1,4 +1,6 @@
 // One share of an element book, as its own bytes: N lengths of two bytes, then M bytes for the descriptors.
+#![tactic(auto)]
+
 ghost use Rattle.std.specs.Prelude.{◌≡◌, ◌+◌, ◌*◌, ◌≤◌, length};
 ghost use Rattle.answer.specs.Answer.{told};
 ghost use Rattle.basics.specs.Tests.{all};

@@ -1,4 +1,6 @@
 // A put and a remove in one share of an element book.
+#![tactic(auto)]
+
 ghost use Rattle.std.specs.Prelude.{◌≡◌, ◌+◌, ◌*◌, ◌/◌, ◌%◌, ◌≤◌, length, set};
 ghost use Rattle.std.proofs.Math.Seq.{paste};
 ghost use Rattle.answer.specs.Answer.{told};

@@ -1,5 +1,7 @@
 // What the programs of worked cases print: labels, answers, and every byte of a buffer.
 // No contract can say what is printed; the gate holds each program to its file stdout.
+#![tactic(auto)]
+
 ghost use Rattle.std.specs.Prelude.{◌<◌, length};
 
 use answer::Answer;

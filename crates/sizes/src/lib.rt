@@ -1,1 +1,3 @@
 // Definitions and laws of the size spectrum: no code.
+
+#![tactic(auto)]

@@ -1,5 +1,7 @@
 // The size spectrum as a user calls it: how many points survive opening by a square of each side.
 // The answer and every lent place are settled for all inputs.
+#![tactic(auto)]
+
 ghost use Rattle.std.specs.Prelude.{◌≡◌, [], ◌∷◌, ◌++◌, ◌*◌, ◌≤◌, ltb, length, drop};
 ghost use Rattle.basics.specs.Lists.{firsts};
 ghost use Rattle.answer.specs.Answer.{told, plain};

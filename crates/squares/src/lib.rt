@@ -1,5 +1,7 @@
 // Erosion and dilation of a packed one-bit picture by a square, in place: each row by a run of cells, then
 // down the columns. And how many points are set.
+#![tactic(auto)]
+
 ghost use Rattle.std.specs.Prelude.{◌≡◌, ◌++◌, ◌+◌, ◌-◌, ◌≤◌, length, get_or, replicate};
 ghost use Rattle.std.specs.Int.Count.{ones};
 ghost use Rattle.basics.specs.Lists.{firsts};

@@ -1,5 +1,7 @@
 // Which windows make up a row of an element: single cells and pairs of neighbours, or the windows of a run.
 // Their places are in two rooms of 1,232 places, one after the other, of bytes or of packed points.
+#![tactic(auto)]
+
 ghost use Rattle.std.specs.Prelude.{◌≡◌, false, ℕ, ◌+◌, ◌≤◌, ◌<◌, length};
 ghost use Rattle.packedline.specs.Steps.Cells.{level_of, RunOf};
 ghost use Rattle.strokes.specs.Steps.Strokes.{kind_of, lacks_kind, next_of, spot_of, base_of, Strokes};

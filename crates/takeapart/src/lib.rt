@@ -1,6 +1,8 @@
 // An element taken apart into a sum of links: the widest link that divides what is left, with an origin that
 // suits all four quarters, and so on; back where it fails, within a bound on the steps.
 // That the links are a chain for the element is not promised: the check is asked of them.
+#![tactic(auto)]
+
 ghost use Rattle.std.specs.Prelude.{◌≡◌};
 ghost use Rattle.takeapart.specs.Walk.{after, board_at, pick_from, ended, forth, back, onward};
 ghost use Rattle.takeapart.specs.Sum.{sum_byte, sum_bytes, walked};
@@ -13,7 +15,7 @@ pub const CHOICES: usize = 512;
 pub const STEPS: usize = 64;
 
 // What is left to be taken apart, and its origin.
-#[derive(Drop)]
+#[derive(Clone, Copy)]
 pub struct Board {
     pub rows: [RowWord; MOST_CELLS],
     pub column: usize,
@@ -21,7 +23,7 @@ pub struct Board {
 }
 
 // The links taken so far, each with its number and its origin, and how many they are.
-#[derive(Drop)]
+#[derive(Clone, Copy)]
 pub struct Way {
     pub picks: [usize; 6],
     pub links: [RowWord; 6],

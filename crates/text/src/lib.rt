@@ -1,4 +1,6 @@
 // How long a text of echtext can be, and what it prints of a refusal.
+#![tactic(auto)]
+
 ghost use Rattle.std.specs.Prelude.{◌≡◌, ◌++◌, ◌+◌, ◌*◌, ◌≤◌, length, drop};
 ghost use Rattle.picture.specs.Frame.{most_pings, most_bins};
 ghost use Rattle.text.specs.Text.{most_line, most_text, refused_line};

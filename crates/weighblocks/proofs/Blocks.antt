@@ -5,7 +5,7 @@ use mathlib.Core.Bool.{Bool, true, false}
 use mathlib.Core.List.{List}
 use native.Mathlib.Omega.{arith}
 use native.Mathlib.Numerals.{add-one}
-use lib.ListN.{length, get_or, replicate, length_replicate}
+use lib.ListN.{length, get_or, replicate, length-replicate}
 use Rattle.basics.specs.Lists.{firsts}
 use Rattle.basics.proofs.Lists.{length_firsts, get_d_firsts, firsts_same, list_is}
 use Rattle.morphology.specs.Operations.{fold}
@@ -97,7 +97,7 @@ module _ (grows : Bool) (b rising others : List ℕ) where
         ∙ ap (λ n. both_at grows n b (i + j) rising others)
         (ap (λ l. get_or l j 0) ec
         ∙ get_first n (λ m. get_or t (i + m) 0) (replicate 64 0) j
-        (subst (λ m. n ≤ m) (sym (length_replicate {A = ℕ} 64 0)) few) h))
+        (subst (λ m. n ≤ m) (sym (length-replicate {A = ℕ} 64 0)) few) h))
 
     pub row_joined : (u v : List ℕ) (n : ℕ) → 64 * n ≤ length t → u ≡ laid 0 (64 * n) row_at t
         → v ≡ laid (64 * n) (length u - 64 * n)

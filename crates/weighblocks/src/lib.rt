@@ -1,5 +1,7 @@
 // Blocks of a row joined with what the cells of a weighted element find, all cells of an element row at once.
 // Cells that raise and cells that do not come apart, so that no test of a sign is left in a loop.
+#![tactic(auto)]
+
 ghost use Rattle.std.specs.Prelude.{◌≡◌, cond, ◌+◌, ◌-◌, ◌*◌, ◌/◌, ◌%◌, ◌≤◌, ◌<◌, min, eqb, length, get_or, replicate};
 ghost use Rattle.basics.specs.Lists.{firsts};
 ghost use Rattle.picture.specs.Frame.{most_pings};

@@ -1,4 +1,6 @@
 // A row of bytes joined with another, each of its bytes weighed first by a cell's height.
+#![tactic(auto)]
+
 ghost use Rattle.std.specs.Prelude.{◌≡◌, ◌≤◌, length};
 ghost use Rattle.basics.specs.Zip.{zip_in};
 ghost use Rattle.morphology.specs.Weighted.{held_less, held_more, lower, raise};

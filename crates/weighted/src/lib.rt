@@ -1,6 +1,8 @@
 // Weighted erosion, dilation, opening and closing of 8-bit pictures as a user calls them:
 // the answer and every lent byte are settled for all inputs.
 // The element's heights are read where they stand, in its descriptor.
+#![tactic(auto)]
+
 ghost use Rattle.std.specs.Prelude.{◌≡◌, min, length};
 ghost use Rattle.answer.specs.Answer.{told};
 ghost use Rattle.morphology.specs.Weighted.{erode_weighted, dilate_weighted, open_weighted, close_weighted};

@@ -1,5 +1,7 @@
 // Windows of 4 and 16 points of a packed row, in place, a block at a time;
 // and what stands at several places of it, joined into a row.
+#![tactic(auto)]
+
 ghost use Rattle.std.specs.Prelude.{◌≡◌, ◌+◌, ◌-◌, ◌*◌, ◌/◌, ◌≤◌, ◌<◌, length};
 ghost use Rattle.basics.specs.Lists.{firsts};
 ghost use Rattle.windows.specs.Steps.Widened.{widen1_at, widen4_at, widened_by, windows_of};

@@ -1,5 +1,7 @@
 // Words of 64 points: read from packed bytes, moved on, searched for cells, and put to packed bytes.
 // The first point is the highest bit.
+#![tactic(auto)]
+
 ghost use Rattle.std.specs.Prelude.{◌≡◌, cond, ℕ, ◌+◌, ◌-◌, ◌*◌, ◌%◌, ◌^◌, ◌≤◌, ◌<◌, ltb, length, get_or};
 ghost use Rattle.std.specs.Int.Bits.{bit_or};
 ghost use Rattle.basics.specs.Bits.{bit};

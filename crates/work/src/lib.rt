@@ -1,5 +1,7 @@
 // The work that a job asks for: an element and a file judged,
 // then an operation on the file's picture, and the text of the result. A refusal prints its line.
+#![tactic(auto)]
+
 ghost use Rattle.std.specs.Prelude.{◌≡◌, ◌++◌, length};
 ghost use Rattle.answer.specs.Answer.{told, plain};
 ghost use Rattle.answer.specs.Refuse.{refuse};
@@ -22,7 +24,7 @@ use picture::Depth;
 const MOST_REFUSED: usize = 11;
 
 // What is asked for.
-#[derive(Drop)]
+#[derive(Clone, Copy)]
 pub enum Operation {
     Erode,
     Dilate,
@@ -31,7 +33,7 @@ pub enum Operation {
 }
 
 // What came of it: the answer, and how many bytes at the start of the text are printed.
-#[derive(Drop)]
+#[derive(Clone, Copy)]
 pub struct Outcome {
     pub answer: Answer,
     pub printed: usize,

@@ -7,7 +7,7 @@ use Rattle.blocks.proofs.Laid.{length_laid, laid_whole}
 use Rattle.blocks.specs.Steps.Laid.{laid}
 use Rattle.basics.specs.Lists.{firsts}
 use Rattle.basics.proofs.Lists.{firsts_same}
-use lib.ListN.{length, get_or, replicate, length_replicate}
+use lib.ListN.{length, get_or, replicate, length-replicate}
 use Prim.Native.Nat.{ℕ, ◌+◌}
 use mathlib.Core.List.{List}
 use mathlib.Core.Path.{◌≡◌, ap, ◌∙◌}
@@ -18,7 +18,7 @@ use Rattle.bitrooms.proofs.join_short.Tie as tie
 
 -- the room is one block
 block_long : (n : ℕ) (f : ℕ → ℕ) (c : List ℕ) → c ≡ laid 0 n f (replicate 64 0) → length c ≡ 64
-block_long n f c e = ap length e ∙ length_laid 0 n f (replicate 64 0) ∙ length_replicate {A = ℕ} 64 0
+block_long n f c e = ap length e ∙ length_laid 0 n f (replicate 64 0) ∙ length-replicate {A = ℕ} 64 0
 
 -- and joined as a row it is joined byte by byte
 block_joined : (F : ℕ → ℕ → ℕ) (c e : List ℕ) → length c ≡ 64 → e ≡ laid 0 (length c) (row_at F c) c

@@ -4,7 +4,7 @@ use Rattle.blocks.specs.Steps.Laid.{laid}
 use Rattle.rows.specs.Steps.Fold.{start_by}
 use Rattle.packedline.specs.Steps.Padded.{faced_byte}
 use Rattle.heightsigns.proofs.Line.{row_padded}
-use lib.ListN.{length, get_or, length_replicate}
+use lib.ListN.{length, get_or, length-replicate}
 use Prim.Native.Nat.{ℕ}
 use mathlib.Core.Bool.{false}
 use mathlib.Core.Path.{◌≡◌, ap, ◌∙◌}
@@ -14,7 +14,7 @@ use Rattle.byheight.proofs.fill.Statement.{statement}
 use Rattle.byheight.proofs.fill.Tie as tie
 
 long : (s : tie.Start) → length s.args.b.now ≡ 1152
-long s = ap length s.requires.1 ∙ length_replicate {A = ℕ} 1152 (start_by s.args.grows 255)
+long s = ap length s.requires.1 ∙ length-replicate {A = ℕ} 1152 (start_by s.args.grows 255)
 
 copy-over-requires : tie.Need-copy-over-requires
 copy-over-requires c κs = omega (

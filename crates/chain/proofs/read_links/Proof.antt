@@ -4,7 +4,7 @@ use Prim.Native.Nat.{◌-◌, ◌+◌, ◌≤◌}
 use mathlib.Core.Path.{◌≡◌, refl, sym, ◌∙◌}
 use mathlib.Core.Bool.{true}
 use native.Mathlib.Omega.{arith}
-use lib.ListN.{length, length_replicate}
+use lib.ListN.{length, length-replicate}
 use borrow.Author.Tests.{not-true, not-false}
 use borrow.Author.Rules.{rules}
 use Rattle.answer.specs.Answer.{told, is_done}
@@ -38,7 +38,7 @@ ends c =
     end_in_lem _ _ _ _ _ b.before.loop.inv.1 b.loop-test.taken _ c.descriptor-len.ensures
 
 loop-holds : tie.Need-loop-init invariant-loop decreases-loop
-loop-holds c = (search rules, onward_start _ _ _ (length_replicate most_links c.no-link.result))
+loop-holds c = (search rules, onward_start _ _ _ (length-replicate most_links c.no-link.result))
 
 add-end : tie.Need-overflow-add-end invariant-loop decreases-loop
 add-end c = let z = ends c in omega arith

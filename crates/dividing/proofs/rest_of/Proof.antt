@@ -4,7 +4,7 @@ use Prim.Native.Nat.{ℕ, ◌-◌, ◌≤◌}
 use mathlib.Core.Path.{◌≡◌}
 use mathlib.Core.List.{◌++◌}
 use native.Mathlib.Omega.{arith}
-use lib.ListN.{drop, replicate, length_replicate}
+use lib.ListN.{drop, replicate, length-replicate}
 use Rattle.basics.specs.Lists.{firsts}
 use Rattle.basics.proofs.Lists.{over_none, over_more, over_whole}
 use Rattle.dividing.specs.Divide.{rest_row, rest_of}
@@ -36,7 +36,7 @@ returns : tie.Need-returns invariant-loop decreases-loop
 unfolding rest_of
 returns c =
     over_whole _ (replicate {A = ℕ} 64 0) _ c.before.loop.y 64 c.before.loop.invariant.1 (omega arith)
-    (length_replicate {A = ℕ} 64 0)
+    (length-replicate {A = ℕ} 64 0)
 
 pub rest-of-spec : {M : Type 1} → statement M
 rest-of-spec =

@@ -11,7 +11,7 @@ use Rattle.work.specs.declared.Operation.{Operation}
 use Rattle.work.specs.Prints.{printed, over}
 use native.Mathlib.Nat.{le_of_eq}
 use native.Mathlib.Omega.{arith}
-use lib.ListN.{length, drop, replicate, length-append, length_replicate}
+use lib.ListN.{length, drop, replicate, length-append, length-replicate}
 use lib.Seq.{length-take-le}
 use borrow.Author.Rules.{rules}
 use Rattle.echtext.proofs.main.Statement.{statement}
@@ -29,7 +29,7 @@ within c = let e = c.run-job.ensures.1 in fits _ _ _ _ _ _ _ _ e.0 e.1.1.1.1
 
 -- an array of n bytes has n: each is as long as a job may be, and the text as long as any job's
 long : (n : ℕ) → n ≤ length (replicate {A = ℕ} n 0)
-long n = le_of_eq (sym (length_replicate n 0))
+long n = le_of_eq (sym (length-replicate n 0))
 
 never : (c : tie.After-run-job) → told c.run-job.result.answer ≡ plain 8 → ⊥
 never c e =

@@ -5,7 +5,7 @@ use mathlib.Core.Path.{◌≡◌, ◌∙◌}
 use mathlib.Core.List.{◌++◌}
 use native.Mathlib.Omega.{arith}
 use borrow.Author.Rules.{rules}
-use lib.ListN.{drop, replicate, length_replicate}
+use lib.ListN.{drop, replicate, length-replicate}
 use Rattle.basics.specs.Lists.{firsts}
 use Rattle.basics.proofs.Lists.{over_none, over_more, over_whole}
 use Rattle.hulls.specs.Hull.{own_row}
@@ -32,7 +32,7 @@ loop-again c =
 
 returns : tie.Need-returns invariant-loop decreases-loop
 returns c = over_whole _ (replicate {A =
-    ℕ} 8 0) _ c.before.loop.r 8 c.before.loop.invariant.1 (omega arith) (length_replicate {A = ℕ} 8 0)
+    ℕ} 8 0) _ c.before.loop.r 8 c.before.loop.invariant.1 (omega arith) (length-replicate {A = ℕ} 8 0)
 
 pub own-rows-spec : {M : Type 1} → statement M
 own-rows-spec =

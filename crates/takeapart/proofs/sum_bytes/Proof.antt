@@ -4,7 +4,7 @@ use Prim.Native.Nat.{ℕ, ◌-◌, ◌≤◌}
 use mathlib.Core.Path.{◌≡◌}
 use mathlib.Core.List.{◌++◌}
 use native.Mathlib.Omega.{arith}
-use lib.ListN.{drop, replicate, length_replicate}
+use lib.ListN.{drop, replicate, length-replicate}
 use Rattle.basics.specs.Lists.{firsts}
 use Rattle.basics.proofs.Lists.{over_none, over_more, over_whole}
 use Rattle.takeapart.specs.Sum.{sum_byte, sum_bytes}
@@ -36,7 +36,7 @@ returns : tie.Need-returns invariant-loop decreases-loop
 unfolding sum_bytes
 returns c =
     over_whole _ (replicate {A = ℕ} 60 0) _ c.before.loop.n 60 c.before.loop.invariant.1 (omega arith)
-    (length_replicate {A = ℕ} 60 0)
+    (length-replicate {A = ℕ} 60 0)
 
 pub sum-bytes-spec : {M : Type 1} → statement M
 sum-bytes-spec =

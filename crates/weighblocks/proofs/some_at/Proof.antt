@@ -2,7 +2,7 @@
 -- No byte is read past the n that are asked for.
 use Rattle.blocks.proofs.Laid.{block_more, laid_none}
 use Rattle.blocks.specs.Steps.Laid.{laid}
-use lib.ListN.{length, get_or, replicate, length-set, length_replicate}
+use lib.ListN.{length, get_or, replicate, length-set, length-replicate}
 use Prim.Native.Nat.{ℕ, ◌+◌, ◌-◌, ◌≤◌}
 use mathlib.Core.Path.{◌≡◌, refl, ◌∙◌}
 use native.Mathlib.Omega.{arith}
@@ -26,7 +26,7 @@ loop-again c = let l = c.before.before.loop in
       search rules,
       simp length-set l.invariant.1,
       block_more 64 (λ i. get_or a.s.now (a.at + i) 0) (replicate 64 0) l.c l.i
-          (length_replicate {A = ℕ} 64 0) l.invariant.2 _ (omega arith) refl,
+          (length-replicate {A = ℕ} 64 0) l.invariant.2 _ (omega arith) refl,
     )
 
 returns : tie.Need-returns invariant-loop decreases-loop
