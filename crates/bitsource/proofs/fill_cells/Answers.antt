@@ -1,0 +1,33 @@
+-- The row goes into the first room, between what counts beyond the frame;
+-- its windows of two into the second, which is not read.
+use Rattle.bitparts.proofs.Filled.{cells_filled}
+use lib.ListN.{length}
+use mathlib.Core.Path.{◌≡◌}
+use mathlib.Core.Logic.{inl}
+use native.Mathlib.Omega.{arith}
+use borrow.Author.Rules.{rules}
+use Rattle.bitsource.proofs.fill_cells.Goals as goal
+
+pub widen-requires : goal.widen-requires
+widen-requires c =
+    let l : length c.pad.new.b ≡ 308 = search rules in
+    record {
+      few = c.requires.1;
+      first = omega arith;
+      second = omega arith;
+      third = omega arith;
+      reads = omega (arith, l);
+      writes = omega (arith, l);
+      apart = inl (omega arith);
+    }
+
+pub returns : goal.returns
+returns c =
+    let a = c.args in
+    let p = c.pad in
+    cells_filled a.grows a.s.now a.w a.n
+    (λ i. let g = c.type_inv.s
+    i in omega arith)
+    c.requires.0.some_points c.requires.0.few_points c.requires.0.row p.new.b _
+    (λ i. let g = (goal.at.returns c).After-slice_known-2-1.slice_known-2-1.given i in omega arith)
+    p.ensures c.widen.ensures

@@ -1,0 +1,16 @@
+-- Invariant: i bytes are joined, and t is as it was from there on. What falls: the bytes left.
+-- What a turn reads of t it has not written yet.
+use Prim.Native.Nat.{◌-◌, ◌≤◌}
+use Rattle.blocks.specs.Steps.Joins.{join_packed}
+use Rattle.blocks.specs.Steps.Laid.{laid}
+use lib.ListN.{length, get_or}
+use mathlib.Core.Path.{◌≡◌}
+use Rattle.blocks.proofs.join_bytes.Given as goal
+
+abbrev pub invariant-loop-i : goal.invariant-loop-i
+invariant-loop-i l =
+    (ii ≤ length l.initial.t) × (length l.t ≡ length l.initial.t)
+    × (l.t ≡ laid 0 ii (λ ii. join_packed l.grows (get_or l.initial.t ii 0) (get_or l.b ii 0)) l.initial.t)
+
+abbrev pub decreases-loop-i : goal.decreases-loop-i
+decreases-loop-i l = length l.initial.t - l.i

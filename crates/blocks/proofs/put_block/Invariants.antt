@@ -1,0 +1,14 @@
+-- Invariant: i bytes of the block are laid at `at`. What falls: the bytes left.
+-- All else of t stays.
+use Rattle.blocks.specs.Steps.Laid.{laid}
+use lib.ListN.{length, get_or}
+use Prim.Native.Nat.{◌-◌, ◌≤◌}
+use mathlib.Core.Path.{◌≡◌}
+use Rattle.blocks.proofs.put_block.Given as goal
+
+abbrev pub invariant-loop-i : goal.invariant-loop-i
+invariant-loop-i l =
+    (ii ≤ 64) × (length l.t ≡ length l.initial.t) × (l.t ≡ laid l.at ii (λ ii. get_or l.c ii 0) l.initial.t)
+
+abbrev pub decreases-loop-i : goal.decreases-loop-i
+decreases-loop-i l = 64 - l.i

@@ -1,0 +1,17 @@
+-- All bytes of the share are cleared, then the mark is set: the fresh book.
+-- A buffer that is too short is left as it was.
+use native.Mathlib.Omega.{arith}
+use Rattle.book.proofs.Calls.{start_answer_short, start_answer_lem, start_short, start_is}
+use Rattle.book.proofs.start.Goals as goal
+
+pub returns-then-book-lt-BOOK : goal.returns-then-book-lt-BOOK
+returns-then-book-lt-BOOK c =
+    let b = c.args.book.now in
+    (start_answer_short b c.if-book-lt-BOOK.true, start_short b c.if-book-lt-BOOK.true)
+
+pub returns : goal.returns
+returns c =
+    let b = c.args.book.now in record {
+      answer = start_answer_lem b (omega arith);
+      bytes = start_is b _ _ (omega arith) c.clear_from.ensures c.set_mark.ensures;
+    }

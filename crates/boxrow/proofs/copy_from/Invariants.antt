@@ -1,0 +1,15 @@
+-- Invariant: the first i bytes are t's, the others as they were. What falls: the bytes left.
+-- At the end there is no other.
+use Rattle.blocks.specs.Steps.Laid.{laid}
+use lib.ListN.{length, get_or}
+use Prim.Native.Nat.{◌+◌, ◌-◌, ◌≤◌}
+use mathlib.Core.Path.{◌≡◌}
+use Rattle.boxrow.proofs.copy_from.Given as goal
+
+abbrev pub invariant-loop-i : goal.invariant-loop-i
+invariant-loop-i l =
+    (ii ≤ length l.initial.row) × (length l.row ≡ length l.initial.row) × (l.row ≡ laid 0 ii (λ ii. get_or l.t
+    (l.at + ii) 0) l.initial.row)
+
+abbrev pub decreases-loop-i : goal.decreases-loop-i
+decreases-loop-i l = length l.initial.row - l.i

@@ -1,0 +1,29 @@
+use Rattle.blocks.proofs.Laid.{laid_none, laid_more}
+use Rattle.blocks.specs.Steps.Laid.{laid}
+use lib.ListN.{length, get_or, length-set}
+use Prim.Native.Nat.{◌-◌}
+use mathlib.Core.Path.{◌≡◌, refl, ◌∙◌, ap}
+use native.Mathlib.Omega.{arith}
+use borrow.Author.Rules.{rules}
+use Rattle.bytewindows.proofs.put_some.Goals as goal
+
+pub loop-i-init : goal.loop-i-init
+loop-i-init c = (search rules, search rules, laid_none _ _ _)
+
+pub loop-i-preserved : goal.loop-i-preserved
+loop-i-preserved c =
+    let l = c.loop-i in
+    let a = c.args in (
+      search rules,
+      simp length-set l.invariant.1,
+      laid_more a.at l.i (λ i. get_or a.t3 i 0) a.t.now l.t _ (omega arith) l.invariant.2 refl,
+    )
+
+pub shape_of-t : goal.shape_of-t
+shape_of-t c = c.loop-i.invariant.1
+
+pub returns : goal.returns
+returns c =
+    let a = c.args in
+    let e : c.loop-i.i ≡ length a.t.now - a.at = omega arith in
+    c.loop-i.invariant.2 ∙ ap (λ i. laid a.at i (λ i. get_or a.t3 i 0) a.t.now) e

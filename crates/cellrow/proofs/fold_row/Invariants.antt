@@ -1,0 +1,18 @@
+-- Invariant: the row is what the first c cells make of it, each by its height. What falls: the cells left.
+-- Each turn is one cell more, whether it is set or not.
+use Rattle.rows.proofs.Fold.{so_far}
+use Rattle.rows.specs.Steps.Row.{columns_of}
+use Rattle.rows.specs.Steps.Ways.{weigh_by}
+use Rattle.element.specs.Record.{cell_on}
+use lib.ListN.{length}
+use Prim.Native.Nat.{◌+◌, ◌≤◌, ◌-◌}
+use mathlib.Core.Path.{◌≡◌}
+use Rattle.cellrow.proofs.fold_row.Given as goal
+
+abbrev pub invariant-loop-c : goal.invariant-loop-c
+invariant-loop-c l =
+    (cc ≤ l.wide) × (length l.t ≡ length l.initial.t)
+    × (l.t ≡ so_far l.grows (weigh_by l.grows) (λ cc. columns_of l.heights (l.at + cc)) l.initial.t l.s l.w (cell_on l.word) l.origin.0 cc)
+
+abbrev pub decreases-loop-c : goal.decreases-loop-c
+decreases-loop-c l = l.wide - l.c

@@ -1,0 +1,57 @@
+-- The links are counted and written, and the check is asked of just these bytes.
+-- Where it accepts them and there is room, they are copied.
+use mathlib.Core.Path.{refl, sym, ap, ◌∙◌}
+use mathlib.Core.Bool.{not}
+use native.Mathlib.Omega.{arith}
+use borrow.Author.Tests.{not-true, not-false}
+use lib.ListN.{length}
+use Rattle.answer.specs.Answer.{told}
+use Rattle.chainfor.proofs.Sums.{sum_cut, sum_chain_lem, sum_links_lem, sum_bytes_are, sum_copied, sum_fits}
+use Rattle.chainfor.proofs.Sums.{sum_none, sum_cramped, sum_done, sum_refused_so, sum_done_so}
+use Rattle.chainfor.proofs.find_sum.Goals as goal
+
+pub slice_bounds-check_chain-end : goal.slice_bounds-check_chain-end
+slice_bounds-check_chain-end c = sum_cut _ _ _ c.sum_bytes-work.ensures c.lesser-links.ensures
+
+pub returns-then-not-is_done : goal.returns-then-not-is_done
+unfolding told
+returns-then-not-is_done c =
+    let f = sum_fits _ _ _ _ c.sum_bytes-work.ensures c.lesser-links.ensures refl _ _ _
+    c.check_chain.ensures c.is_done.ensures in
+    let no = sym f ∙ not-true c.is_done.result c.if-not-is_done.true in
+    let e = c.refused.ensures in
+    sum_refused_so _ _ _ _ 18 (omega arith) (sum_none _ _ _ no) (ap told e.0) e.1.0 e.1.1.0
+    (e.1.1.1 ∙ sym (ap not no))
+
+pub returns-then-chain-n : goal.returns-then-chain-n
+unfolding told
+returns-then-chain-n c =
+    let f = sum_fits _ _ _ _ c.sum_bytes-work.ensures c.lesser-links.ensures refl _ _ _
+    c.check_chain.ensures c.is_done.ensures in
+    let yes = sym f ∙ not-false c.is_done.result c.if-not-is_done.false in
+    let n = sum_bytes_are _ _ _ _ c.sum_bytes-work.ensures c.lesser-links.ensures refl in
+    let e = c.refused-then-chain-n.ensures in
+    sum_refused_so _ _ _ _ 8 (omega arith) (sum_cramped _ _ _ yes (omega (arith, n))) (ap told e.0)
+    e.1.0
+    e.1.1.0 (e.1.1.1 ∙ sym (ap not yes))
+
+pub slice_bounds-copy-end : goal.slice_bounds-copy-end
+slice_bounds-copy-end c = sum_cut _ _ _ c.sum_bytes-work.ensures c.lesser-links.ensures
+
+pub copy-requires : goal.copy-requires
+copy-requires c = omega (arith, sum_cut _ _ _ c.sum_bytes-work.ensures c.lesser-links.ensures)
+
+pub returns : goal.returns
+unfolding told
+returns c =
+    let f = sum_fits _ _ _ _ c.sum_bytes-work.ensures c.lesser-links.ensures refl _ _ _
+    c.check_chain.ensures c.is_done.ensures in
+    let yes = sym f ∙ not-false c.is_done.result c.if-not-is_done.false in
+    let eb = c.sum_bytes-work.ensures in
+    let n = sum_bytes_are _ _ _ _ eb c.lesser-links.ensures refl in
+    let a = c.args in
+    sum_done_so a.element.now a.chain.now a.way _ _
+    (sum_done a.element.now a.way (length a.chain.now) yes (omega (arith, n))) refl
+    (sum_links_lem _ _ _ _ eb c.lesser-links.ensures refl) n (sym (ap not yes))
+    (sum_copied a.way _ _ a.chain.now (sum_chain_lem _ _ _ _ eb c.lesser-links.ensures refl)
+    c.copy.ensures.bytes)

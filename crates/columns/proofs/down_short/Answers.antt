@@ -1,0 +1,55 @@
+use Rattle.columns.proofs.Rows.{row_in, block_none, block_more}
+use Rattle.columns.specs.Steps.Down.{down_at}
+use Rattle.joins.specs.Steps.Joins.{joined_at}
+use Rattle.basics.specs.Lists.{firsts}
+use Rattle.basics.proofs.Lists.{length_firsts}
+use lib.ListN.{length}
+use Prim.Native.Nat.{ℕ, ◌+◌, ◌*◌, ◌≤◌}
+use mathlib.Core.Path.{◌≡◌, refl, ap, ◌∙◌}
+use native.Mathlib.Omega.{arith}
+use borrow.Author.Rules.{rules}
+use Rattle.columns.proofs.down_short.Goals as goal
+use Rattle.columns.proofs.down_short.Goals.{In-loop-v}
+
+room : (c : In-loop-v)
+    → ((c.args.lo + c.loop-v.v) * c.args.n + 64
+    ≤ length c.args.s.now) × (c.args.lo + c.loop-v.v ≤ length c.args.s.now)
+room c = let a = c.args in
+    row_in a.lo c.loop-v.v a.count a.n _ _ c.loop-v-test.true c.requires.0
+    c.requires.1
+
+pub loop-v-init : goal.loop-v-init
+loop-v-init c =
+    let a = c.args in (
+  search rules,
+  search rules,
+  block_none a.packed a.grows a.s.now a.n a.lo 0 _ _ c.beyond-c.ensures refl,
+)
+
+pub overflow_add-lo : goal.overflow_add-lo
+overflow_add-lo c = omega (arith, room (goal.at.overflow_add-lo c).In-loop-v)
+
+pub overflow_mul-lo : goal.overflow_mul-lo
+overflow_mul-lo c = omega (arith, room (goal.at.overflow_mul-lo c).In-loop-v)
+
+pub join_block-next-requires : goal.join_block-next-requires
+join_block-next-requires c =
+    omega (arith, room (goal.at.join_block-next-requires c).In-loop-v)
+
+pub loop-v-preserved : goal.loop-v-preserved
+loop-v-preserved c =
+    let l = c.loop-v in
+    let a = c.args in
+    let e = block_more a.packed a.grows a.s.now a.n a.lo l.v 0 l.c _ l.invariant.2
+    (c.join_block-next.ensures ∙ ap (joined_at a.packed a.grows l.c a.s.now) (more _)) in
+    (search rules, ap length e ∙ length_firsts _ 64, e)
+  where
+    more : (x : ℕ) → x ≡ x + 0
+    more x = omega arith
+
+pub returns : goal.returns
+returns c =
+    let a = c.args in
+    let e : c.loop-v.v ≡ a.count = omega arith in
+    c.loop-v.invariant.2 ∙ ap (λ v. firsts (λ m. down_at a.packed a.grows a.s.now a.n a.lo v
+    (0 + m)) 64) e

@@ -1,0 +1,20 @@
+-- By the depth: it passes on what its function returns.
+-- That is what is promised here: its definition is that of White.
+use Rattle.differences.proofs.Made.{made_at}
+use Rattle.differences.specs.declared.Which.TheVariants.{White}
+use Rattle.picture.specs.declared.Depth.TheVariants.{OneBit, EightBit}
+use Rattle.differences.proofs.white_tophat.Goals as goal
+
+pub returns-in-OneBit : goal.returns-in-OneBit
+returns-in-OneBit c =
+    let a = c.args in
+    made_at a.depth OneBit c.in-OneBit.is a.w a.h a.source.now
+    a.element.now _ _ White a.target.now _ a.scratch.now _
+    (c.run_bits.ensures.answer, (c.run_bits.ensures.bytes, c.run_bits.ensures.middle))
+
+pub returns-in-EightBit : goal.returns-in-EightBit
+returns-in-EightBit c =
+    let a = c.args in
+    made_at a.depth EightBit c.in-EightBit.is a.w a.h a.source.now
+    a.element.now _ _ White a.target.now _ a.scratch.now _
+    (c.run_bytes.ensures.answer, (c.run_bytes.ensures.bytes, c.run_bytes.ensures.middle))

@@ -1,0 +1,14 @@
+-- One case of the definition for each return.
+-- The test is the call before it.
+use mathlib.Core.Path.{sym, ◌∙◌}
+use Rattle.dividing.specs.Divide.{met}
+use Rattle.dividing.proofs.Least.{cond_yes, cond_no}
+use Rattle.dividing.proofs.met.Goals as goal
+
+pub returns-then-is_set : goal.returns-then-is_set
+unfolding met
+returns-then-is_set c = sym (cond_yes _ _ _ (sym c.is_set.ensures ∙ c.if-is_set.true))
+
+pub returns : goal.returns
+unfolding met
+returns c = sym (cond_no _ _ _ (sym c.is_set.ensures ∙ c.if-is_set.false))

@@ -1,0 +1,20 @@
+-- By the depth: it passes on what its function returns, for erosion.
+-- That is what is promised here: the operation's definition is that way's.
+use Rattle.flat.proofs.Known.{once_at}
+use Rattle.picture.specs.declared.Depth.TheVariants.{OneBit, EightBit}
+use mathlib.Core.Bool.{false}
+use Rattle.flat.proofs.erode.Goals as goal
+
+pub returns-in-OneBit : goal.returns-in-OneBit
+returns-in-OneBit c =
+    let a = c.args in
+    once_at a.depth OneBit c.in-OneBit.is a.w a.h
+    a.source.now a.element.now
+    _ _ false a.target.now _ (c.run_bits.ensures.answer, c.run_bits.ensures.bytes)
+
+pub returns-in-EightBit : goal.returns-in-EightBit
+returns-in-EightBit c =
+    let a = c.args in
+    once_at a.depth EightBit c.in-EightBit.is a.w a.h
+    a.source.now a.element.now
+    _ _ false a.target.now _ (c.run_bytes.ensures.answer, c.run_bytes.ensures.bytes)

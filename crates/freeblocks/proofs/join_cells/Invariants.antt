@@ -1,0 +1,14 @@
+-- Invariant: the two blocks are joined with what the first j cells find. What falls: the cells left.
+-- Each place is read as far as the blocks go, and there is room for it.
+use Rattle.freeblocks.proofs.Blocks.{cells_at}
+use lib.ListN.{length}
+use Prim.Native.Nat.{◌-◌, ◌≤◌}
+use mathlib.Core.Path.{◌≡◌}
+use Rattle.freeblocks.proofs.join_cells.Given as goal
+
+abbrev pub invariant-loop-j : goal.invariant-loop-j
+invariant-loop-j l =
+    (l.j ≤ length l.cells) × (length l.acc ≡ 128) × (l.acc ≡ cells_at l.grows l.up l.initial.acc l.b l.i l.cells l.j)
+
+abbrev pub decreases-loop-j : goal.decreases-loop-j
+decreases-loop-j l = length l.cells - l.j

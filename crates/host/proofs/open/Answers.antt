@@ -1,0 +1,14 @@
+-- It passes on what flat::open returns: target and scratch are that call's own.
+-- The number is its answer packed: what the answer is told as is known, and `pack` packs that.
+use mathlib.Core.Path.{ap, ◌∙◌}
+use Rattle.answer.specs.Packed.{packed}
+use Rattle.host.proofs.open.Goals as goal
+
+pub returns : goal.returns
+returns c =
+    let e = c.«open».ensures in
+    record {
+      number = c.pack.ensures ∙ ap packed c.open.ensures.answer;
+      bytes = c.open.ensures.bytes;
+      middle = c.open.ensures.middle;
+    }

@@ -1,0 +1,11 @@
+-- It passes on what `black_tophat` returns, at the one-bit depth.
+-- So what `black_tophat` promises at that depth is what is promised here.
+use Rattle.host.proofs.qik_black_tophat1.Goals as goal
+
+pub returns : goal.returns
+returns c =
+    record {
+      number = c.black_tophat.ensures.number;
+      bytes = c.black_tophat.ensures.bytes;
+      middle = c.black_tophat.ensures.middle;
+    }

@@ -1,0 +1,11 @@
+-- It passes on what `chain_erode` returns, at the 8-bit depth.
+-- So what `chain_erode` promises at that depth is what is promised here.
+use Rattle.host.proofs.qik_chain_erode8.Goals as goal
+
+pub returns : goal.returns
+returns c =
+    record {
+      number = c.chain_erode.ensures.number;
+      first = c.chain_erode.ensures.first;
+      second = c.chain_erode.ensures.second;
+    }

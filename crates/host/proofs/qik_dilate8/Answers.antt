@@ -1,0 +1,10 @@
+-- It passes on what `dilate` returns, at the 8-bit depth.
+-- So what `dilate` promises at that depth is what is promised here.
+use Rattle.host.proofs.qik_dilate8.Goals as goal
+
+pub returns : goal.returns
+returns c =
+    record {
+      number = c.dilate.ensures.number;
+      bytes = c.dilate.ensures.bytes;
+    }

@@ -1,0 +1,14 @@
+-- It passes on what weighted::close returns: target and scratch are that call's own.
+-- The number is its answer packed: what the answer is told as is known, and `pack` packs that.
+use mathlib.Core.Path.{ap, ◌∙◌}
+use Rattle.answer.specs.Packed.{packed}
+use Rattle.host.proofs.qik_weighted_close.Goals as goal
+
+pub returns : goal.returns
+returns c =
+    let e = (c.close.ensures.answer, (c.close.ensures.bytes, c.close.ensures.middle)) in
+    record {
+      number = c.pack.ensures ∙ ap packed c.close.ensures.answer;
+      bytes = c.close.ensures.bytes;
+      middle = c.close.ensures.middle;
+    }

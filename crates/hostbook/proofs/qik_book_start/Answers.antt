@@ -1,0 +1,13 @@
+-- It passes on what book::start returns: the book is that call's own.
+-- The number is its answer packed: what the answer is told as is known, and `pack` packs that.
+use mathlib.Core.Path.{ap, ◌∙◌}
+use Rattle.answer.specs.Packed.{packed}
+use Rattle.hostbook.proofs.qik_book_start.Goals as goal
+
+pub returns : goal.returns
+returns c =
+    let e = (c.start.ensures.answer, c.start.ensures.bytes) in
+    record {
+      number = c.pack.ensures ∙ ap packed c.start.ensures.answer;
+      bytes = c.start.ensures.bytes;
+    }

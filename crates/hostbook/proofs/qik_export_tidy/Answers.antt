@@ -1,0 +1,13 @@
+-- It passes on what book::tidy returns: the book is that call's own.
+-- The number is its answer packed: what the answer is told as is known, and `pack` packs that.
+use mathlib.Core.Path.{ap, ◌∙◌}
+use Rattle.answer.specs.Packed.{packed}
+use Rattle.hostbook.proofs.qik_export_tidy.Goals as goal
+
+pub returns : goal.returns
+returns c =
+    let e = (c.tidy.ensures.answer, c.tidy.ensures.bytes) in
+    record {
+      number = c.pack.ensures ∙ ap packed c.tidy.ensures.answer;
+      bytes = c.tidy.ensures.bytes;
+    }

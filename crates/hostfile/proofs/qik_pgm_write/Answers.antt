@@ -1,0 +1,13 @@
+-- It passes on what pnmwrite::write_pgm returns: the target is that call's own.
+-- The number is its answer packed: what the answer is told as is known, and `pack` packs that.
+use mathlib.Core.Path.{ap, ◌∙◌}
+use Rattle.answer.specs.Packed.{packed}
+use Rattle.hostfile.proofs.qik_pgm_write.Goals as goal
+
+pub returns : goal.returns
+returns c =
+    let e = (c.write_pgm.ensures.result_value, c.write_pgm.ensures.target_after) in
+    record {
+      number = c.pack.ensures ∙ ap packed c.write_pgm.ensures.result_value;
+      bytes = c.write_pgm.ensures.target_after;
+    }

@@ -1,0 +1,28 @@
+-- Stands on by_flag where the letter asks for an operation; both bytes are there, by the tests of length.
+-- A job of another length or letter is refused by JOB, and every work buffer stays.
+use Rattle.job.proofs.Jobs.{too_short, too_long, nothing_asked, job_done, job_not}
+use Rattle.basics.proofs.Lists.{tail_is}
+use mathlib.Core.Path.{sym, ◌∙◌}
+use Rattle.job.proofs.run_job.Goals as goal
+
+pub returns-then-job-lt2 : goal.returns-then-job-lt2
+returns-then-job-lt2 c =
+    job_not _ _ _ _ _ (too_short _ _ _ _ _ c.if-job-lt2.true) _ _
+    (c.refused.ensures.answer_value, c.refused.ensures.text_after)
+
+pub returns-then-job-gt-MOST_JOB : goal.returns-then-job-gt-MOST_JOB
+returns-then-job-gt-MOST_JOB c =
+    job_not _ _ _ _ _ (too_long _ _ _ _ _ c.if-job-lt2.false c.if-job-gt-MOST_JOB.true) _ _
+    (c.refused-then-job-gt-MOST_JOB.ensures.answer_value, c.refused-then-job-gt-MOST_JOB.ensures.text_after)
+
+pub returns-in-For : goal.returns-in-For
+returns-in-For c =
+    job_done _ _ _ _ _ _ _ _ _ _ c.if-job-lt2.false c.if-job-gt-MOST_JOB.false _ _
+    (sym c.in-For.is ∙ c.asked_of-asked.ensures) (tail_is c.args.job.now 2)
+    c.by_flag.ensures
+
+pub returns-in-Nothing : goal.returns-in-Nothing
+returns-in-Nothing c =
+    job_not _ _ _ _ _ (nothing_asked _ _ _ _ _ c.if-job-lt2.false c.if-job-gt-MOST_JOB.false
+    (sym c.in-Nothing.is ∙ c.asked_of-asked.ensures)) _ _
+    (c.refused-in-Nothing.ensures.answer_value, c.refused-in-Nothing.ensures.text_after)

@@ -1,0 +1,16 @@
+-- Invariant: the first r rows are the element's, and those from r on are 0 yet; the rows left fall.
+-- Past the last all 8 are.
+use Prim.Native.Nat.{◌-◌, ◌≤◌}
+use mathlib.Core.List.{◌++◌}
+use mathlib.Core.Path.{◌≡◌}
+use lib.ListN.{get_or, replicate}
+use Rattle.basics.specs.Lists.{firsts}
+use Rattle.morphology.specs.Chain.{most_link_cells}
+use Rattle.reach.proofs.first_rows.Given as goal
+
+abbrev pub invariant-loop-r : goal.invariant-loop-r
+invariant-loop-r l =
+    (rr ≤ most_link_cells) × (l.rows ≡ firsts (λ rr. get_or l.cells rr 0) rr ++ replicate (most_link_cells - rr) 0)
+
+abbrev pub decreases-loop-r : goal.decreases-loop-r
+decreases-loop-r l = most_link_cells - l.r

@@ -1,0 +1,22 @@
+-- Invariant: the counts of the first i sides are there, and `here` is what side i + 1 keeps.
+-- What falls: the sides left.
+use Prim.Native.Nat.{◌+◌, ◌-◌, ◌≤◌}
+use mathlib.Core.Path.{◌≡◌}
+use mathlib.Core.List.{◌++◌}
+use lib.ListN.{length, drop}
+use Rattle.basics.specs.Lists.{firsts}
+use Rattle.picture.specs.declared.Depth.TheVariants.{OneBit}
+use Rattle.picture.specs.Frame.{frame, picture_bytes}
+use Rattle.picture.specs.Points.{value_at}
+use Rattle.sizes.specs.Spectrum as defined
+use Rattle.sizes.specs.Spectrum.{count_at}
+use Rattle.spectrum.proofs.count_sides.Given as goal
+
+abbrev pub invariant-loop-i : goal.invariant-loop-i
+invariant-loop-i l =
+    (ii ≤ 31) × (length l.counts ≡ length l.initial.counts) × (length l.t ≡ picture_bytes OneBit l.w l.h)
+    × (l.here ≡ defined.survivors (frame l.w l.h) (value_at OneBit l.source l.w) (ii + 1))
+    × (l.counts ≡ firsts (λ ii. count_at (frame l.w l.h) (value_at OneBit l.source l.w) (ii + 1)) ii ++ drop ii l.initial.counts)
+
+abbrev pub decreases-loop-i : goal.decreases-loop-i
+decreases-loop-i l = 31 - l.i

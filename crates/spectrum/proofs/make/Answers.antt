@@ -1,0 +1,99 @@
+-- The openings are made in the first part of the scratch.
+-- Then both parts are cleared.
+use Prim.Native.Nat.{◌*◌, ◌≤◌}
+use mathlib.Core.Path.{◌≡◌, sym, ap, ◌∙◌, subst}
+use native.Mathlib.Omega.{arith}
+use mathlib.Core.List.{◌++◌}
+use lib.ListN.{length, drop}
+use lib.Seq.{length-take-le}
+use Rattle.picture.specs.declared.Depth.TheVariants.{OneBit}
+use Rattle.picture.specs.Frame.{picture_bytes}
+use Rattle.spectrum.proofs.Counted.{few_bytes, both_long, cleared}
+use Rattle.spectrum.proofs.make.Goals as goal
+use Rattle.spectrum.proofs.make.Goals.{After-row_bytes, After-slice_known-4-1}
+
+-- the bytes of a picture, and two of them in the scratch
+bytes : (c : After-row_bytes) → let a = c.args in
+    a.h * c.row_bytes.result ≡ picture_bytes OneBit a.w a.h
+bytes c = ap (λ r. c.args.h * r) c.row_bytes.ensures
+
+few : (c : After-row_bytes) → c.args.h * c.row_bytes.result ≤ 32768
+few c = let a = c.args in
+    let p = (c.requires.holds, (c.requires.in_bounds, c.requires.h_in_bounds)) in
+    few_bytes a.w a.h _ c.requires.holds.few_pings c.requires.holds.few_bins (bytes c)
+
+-- what the counting leaves of the first part is as long
+part_long : (c : After-slice_known-4-1) → let a = c.args in
+    length c.count_sides.new.t ≡ a.h * c.row_bytes.result
+part_long c = c.count_sides.auto.t
+    ∙ length-take-le _ c.args.scratch.now
+    (omega (
+      arith,
+      bytes c.before.before.before.before.before.before.before,
+      c.requires.h_in_bounds,
+    ))
+
+whole : (c : After-slice_known-4-1) → let a = c.args in
+    2 * (a.h * c.row_bytes.result) ≤ length a.scratch.now
+whole c = omega (
+  arith,
+  bytes c.before.before.before.before.before.before.before,
+  c.requires.h_in_bounds,
+)
+
+-- and so are both parts
+stays : (c : After-slice_known-4-1) → let a = c.args in
+    let m = a.h * c.row_bytes.result in
+    2 * m ≤ length (c.count_sides.new.t ++ drop m a.scratch.now)
+stays c = let a = c.args in
+    let m = a.h * c.row_bytes.result in
+    subst (λ n. 2 * m ≤ n)
+    (sym (both_long a.scratch.now c.count_sides.new.t m (part_long c) (whole c)))
+    (whole c)
+
+pub overflow_mul-n : goal.overflow_mul-n
+overflow_mul-n c =
+    record { fits = omega (arith, few (goal.at.overflow_mul-n c).After-row_bytes) }
+
+pub slice_bounds-count_sides-end : goal.slice_bounds-count_sides-end
+slice_bounds-count_sides-end c =
+    omega (arith, bytes (goal.at.slice_bounds-count_sides-end c).After-row_bytes, c.requires.h_in_bounds)
+
+pub slice_bounds-count_sides-end-2 : goal.slice_bounds-count_sides-end-2
+slice_bounds-count_sides-end-2 c =
+    sym (length-take-le _ c.args.scratch.now
+    (omega (
+      arith,
+      bytes (goal.at.slice_bounds-count_sides-end-2 c).After-row_bytes,
+      c.requires.h_in_bounds,
+    )))
+
+pub count_sides-requires : goal.count_sides-requires
+count_sides-requires c =
+    let p = (c.requires.holds, (c.requires.in_bounds, c.requires.h_in_bounds)) in record {
+      holds = c.requires.holds;
+      in_bounds = c.requires.in_bounds;
+      t_len = length-take-le _ c.args.scratch.now
+            (omega (arith, bytes (goal.at.count_sides-requires c).After-row_bytes, c.requires.h_in_bounds)) ∙ bytes (goal.at.count_sides-requires c).After-row_bytes;
+    }
+
+pub overflow_mul-m : goal.overflow_mul-m
+overflow_mul-m c =
+    record { fits = omega (arith, few (goal.at.overflow_mul-m c).After-row_bytes) }
+
+pub slice_bounds-begin-end : goal.slice_bounds-begin-end
+slice_bounds-begin-end c = stays (goal.at.slice_bounds-begin-end c).After-slice_known-4-1
+
+pub slice_bounds-begin-end-2 : goal.slice_bounds-begin-end-2
+slice_bounds-begin-end-2 c =
+    sym (length-take-le _ _ (stays (goal.at.slice_bounds-begin-end-2 c).After-slice_known-4-1))
+
+pub returns : goal.returns
+returns c =
+    let a = c.args in record {
+      counts = c.count_sides.ensures;
+      scratch = cleared a.scratch.now c.count_sides.new.t
+          (a.h * c.row_bytes.result)
+          (part_long (goal.at.returns c).After-slice_known-4-1) (whole (goal.at.returns c).After-slice_known-4-1) _ (picture_bytes OneBit a.w a.h)
+          (bytes (goal.at.returns c).After-row_bytes) c.begin.ensures;
+    }

@@ -1,0 +1,15 @@
+-- Invariant: none of the first r rows is of kind k. What falls: the rows left.
+-- The first row that is of it settles the answer.
+use Rattle.basics.specs.Tests.{all}
+use Rattle.strokes.specs.Steps.Strokes.{kind_at}
+use lib.Dec.{eqb}
+use Prim.Native.Nat.{◌-◌, ◌≤◌}
+use mathlib.Core.Bool.{true, not}
+use mathlib.Core.Path.{◌≡◌}
+use Rattle.strokes.proofs.lacks_kind.Given as goal
+
+abbrev pub invariant-loop-r : goal.invariant-loop-r
+invariant-loop-r l = (rr ≤ l.o.h) × (all (λ rr. not (eqb (kind_at l.o l.words rr) l.k)) rr ≡ true)
+
+abbrev pub decreases-loop-r : goal.decreases-loop-r
+decreases-loop-r l = l.o.h - l.r

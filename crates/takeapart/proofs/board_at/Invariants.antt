@@ -1,0 +1,12 @@
+-- Invariant: the first i links are taken out.
+-- What falls: the links that are left.
+use Prim.Native.Nat.{◌-◌, ◌≤◌}
+use mathlib.Core.Path.{◌≡◌}
+use Rattle.takeapart.specs.Walk.{board_at}
+use Rattle.takeapart.proofs.board_at.Given as goal
+
+abbrev pub invariant-loop-i : goal.invariant-loop-i
+invariant-loop-i l = (l.i ≤ l.w.depth) × (l.at ≡ board_at l.initial.at l.w l.i)
+
+abbrev pub decreases-loop-i : goal.decreases-loop-i
+decreases-loop-i l = l.w.depth - l.i

@@ -1,0 +1,10 @@
+-- It passes on what `run` returns, for dilation.
+-- That is what is promised here: the operation's definition is that way's.
+use Rattle.weighted.proofs.dilate.Goals as goal
+
+pub returns : goal.returns
+returns c =
+    record {
+      answer = c.run.ensures.answer;
+      bytes = c.run.ensures.bytes;
+    }
