@@ -1,10 +1,7 @@
 -- The variants of an answer, but for a split: dx and dy are 0.
 use mathlib.Core.Path.{◌≡◌, refl}
-use mathlib.Core.List.{[], ◌∷◌}
 use lib.IntN.{pos}
-use types.Run.{OneOf, miss}
-use denote.Enum.Declared.{tag_of}
-use Rattle.answer.specs.contracts.Answer.{the_type}
+use Prim.Native.Nat.{ℕ}
 use Rattle.answer.specs.declared.Answer.{Answer}
 use Rattle.answer.specs.declared.Answer.TheVariants.{Done, Size, Source, Pad, Shape}
 use Rattle.answer.specs.declared.Answer.TheVariants.{Overlap, Chain, Split, Room, Form, Job, Netpbm}
@@ -13,8 +10,7 @@ use Rattle.answer.specs.declared.Answer.TheVariants.{NoChain}
 use Rattle.answer.specs.Answer.{plain, told}
 
 pub plain_offset : (a : Answer)
-    → OneOf (0 ∷ 1 ∷ 2 ∷ 3 ∷ 4 ∷ 5 ∷ 6 ∷ 8 ∷ 9 ∷ 10 ∷ 11 ∷ 12 ∷ 13 ∷ 14 ∷ 15 ∷ 16 ∷ 17 ∷ 18 ∷ [])
-    (tag_of the_type a)
+    → ((x y : ℕ) → a ≡ Split x y → ⊥)
     → (pos 0 ≡ (told a).dx) × (pos 0 ≡ (told a).dy)
 unfolding told plain
 plain_offset Done k = (refl, refl)
@@ -35,6 +31,4 @@ plain_offset Retired k = (refl, refl)
 plain_offset Nest k = (refl, refl)
 plain_offset Book k = (refl, refl)
 plain_offset NoChain k = (refl, refl)
-plain_offset (Split x y) k =
-    absurd (miss (0 ∷ 1 ∷ 2 ∷ 3 ∷ 4 ∷ 5 ∷ 6 ∷ 8 ∷ 9 ∷ 10 ∷ 11 ∷ 12 ∷ 13 ∷ 14 ∷ 15 ∷ 16 ∷ 17 ∷ 18 ∷ [])
-    7 tt k)
+plain_offset (Split x y) k = absurd (k x y refl)

@@ -13,4 +13,4 @@ returns-in-Split c =
     (ap (λ (a : Answer). (told a).dx) e, ap (λ (a : Answer). (told a).dy) e)
 
 pub returns-in_default : goal.returns-in_default
-returns-in_default c = plain_offset c.args.a c.in_default.keys2
+returns-in_default c = plain_offset c.args.a c.in_default.not-Split

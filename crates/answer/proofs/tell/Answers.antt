@@ -18,6 +18,6 @@ pub returns : goal.returns
 returns c =
     let o = c.offset_of-at.ensures in
     same _ _ _ _ c.number_of.ensures.0
-    (to_z-of_z w32 c.signed.result (record { sfits = c.signed.type-inv })
+    (to_z-of_z w32 c.signed.result (record { sfits = c.signed.type_inv })
     ∙ c.signed.ensures ∙ o.0)
-    (to_z-of_z w32 c.signed-2.result (record { sfits = c.signed-2.type-inv }) ∙ c.signed-2.ensures ∙ o.1)
+    (to_z-of_z w32 c.signed-2.result (record { sfits = c.signed-2.type_inv }) ∙ c.signed-2.ensures ∙ o.1)

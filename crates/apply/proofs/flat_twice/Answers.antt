@@ -26,7 +26,7 @@ pub returns-in-OneBit : goal.returns-in-OneBit
 returns-in-OneBit c =
     let a = c.args in
     let q = c.in-OneBit.is in
-    let made = (c.bits_twice.ensures.bytes, c.bits_twice.ensures.middle) in (
+    (
       at_depth
           (λ d. flat_twice_by a.grows d a.w a.h a.o a.words.now (value_at d a.s.now a.w))
           a.w a.h a.t.now _ a.depth OneBit q c.bits_twice.ensures.bytes,
@@ -38,7 +38,7 @@ pub returns-in-EightBit : goal.returns-in-EightBit
 returns-in-EightBit c =
     let a = c.args in
     let q = c.in-EightBit.is in
-    let made = (c.bytes_twice.ensures.bytes, c.bytes_twice.ensures.middle) in (
+    (
       at_depth
           (λ d. flat_twice_by a.grows d a.w a.h a.o a.words.now (value_at d a.s.now a.w))
           a.w a.h a.t.now _ a.depth EightBit q c.bytes_twice.ensures.bytes,

@@ -14,9 +14,7 @@ pub loop-done-init : goal.loop-done-init
 loop-done-init c = (search rules, search rules, laid_none _ _ _)
 
 pub join_places-e-requires : goal.join_places-e-requires
-join_places-e-requires c =
-    let p = (c.requires.in_bounds, c.requires.reached) in
-    λ j h. omega (arith, c.requires.reached j h, c.lesser-i.ensures)
+join_places-e-requires c = λ j h. omega (arith, c.requires.reached j h, c.lesser-i.ensures)
 
 pub loop-done-preserved : goal.loop-done-preserved
 unfolding places_joined

@@ -29,5 +29,5 @@ returns c =
     (λ i. let g = c.type_inv.s
     i in omega arith)
     c.requires.0.some_points c.requires.0.few_points c.requires.0.row p.new.b _
-    (λ i. let g = (goal.at.returns c).After-slice_known-2-1.slice_known-2-1.given i in omega arith)
+    (λ i. let g = c.slice_known-2-1.given i in omega arith)
     p.ensures c.widen.ensures

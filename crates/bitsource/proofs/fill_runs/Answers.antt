@@ -41,8 +41,8 @@ returns c =
     runs_filled a.grows a.s.now a.w a.n
     (λ i. let g = c.type_inv.s i in omega arith)
     c.requires.0.some_points c.requires.0.few_points c.requires.0.row p.new.b _ _
-    (λ i. let g = (goal.at.returns c).After-slice_known-2-1.slice_known-2-1.given i in
+    (λ i. let g = c.slice_known-2-1.given i in
     omega arith)
-    (λ i. let g = (goal.at.returns c).After-slice_known-3-1.slice_known-3-1.given i in omega arith)
+    (λ i. let g = c.slice_known-3-1.given i in omega arith)
     p.ensures c.widen.ensures
     c.widen-2.ensures

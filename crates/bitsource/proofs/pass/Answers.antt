@@ -17,7 +17,6 @@ loop-v-init c = (search rules, refl, c.requires.part_of)
 
 pub source_row-requires : goal.source_row-requires
 source_row-requires c =
-    let p = (c.requires.ready, (c.requires.t_len, c.requires.part_of)) in
     let l = c.loop-v in
     record {
       ready = c.requires.ready;

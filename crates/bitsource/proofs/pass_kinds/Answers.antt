@@ -10,7 +10,6 @@ loop-k-init c = (omega arith, refl, c.requires.part_of)
 
 pub pass-requires : goal.pass-requires
 pass-requires c =
-    let p = (c.requires.ready, (c.requires.t_len, c.requires.part_of)) in
     let l = c.loop-k in
     record {
       ready = c.requires.ready;

@@ -21,18 +21,18 @@ room s = omega (
 )
 
 pub overflow_mul-a : goal.overflow_mul-a
-overflow_mul-a c = omega (arith, room (goal.at.overflow_mul-a c).Start)
+overflow_mul-a c = omega (arith, room c.before.before.before.before.before.before)
 
 pub overflow_add-z : goal.overflow_add-z
-overflow_add-z c = omega (arith, room (goal.at.overflow_add-z c).Start)
+overflow_add-z c = omega (arith, room c.before.before.before.before.before.before)
 
 pub slice_bounds-fill_rooms-end-2 : goal.slice_bounds-fill_rooms-end-2
-slice_bounds-fill_rooms-end-2 c = room (goal.at.slice_bounds-fill_rooms-end-2 c).Start
+slice_bounds-fill_rooms-end-2 c = room c.before.before.before.before.before.before.before
 
 pub fill_rooms-requires : goal.fill_rooms-requires
 fill_rooms-requires c =
     let a = c.args in
-    let l = part_length a.s.now (a.v.0 * ((a.w + 7) / 8)) ((a.w + 7) / 8) (room (goal.at.fill_rooms-requires c).Start) in (
+    let l = part_length a.s.now (a.v.0 * ((a.w + 7) / 8)) ((a.w + 7) / 8) (room c.before.before.before.before.before.before.before.before) in (
       record {
         some_points = c.requires.ready.some_pings;
         few_points = c.requires.ready.few_pings;

@@ -9,7 +9,6 @@ loop-r-init c = (search rules, refl, c.requires.part_of)
 
 pub add_row-requires : goal.add_row-requires
 add_row-requires c =
-    let p = (c.requires.ready, (c.requires.t_len, (c.requires.bit_rooms, c.requires.part_of))) in
     let l = c.loop-r in record {
       ready = c.requires.ready;
       t_len = (l.invariant.1 ∙ c.requires.t_len.0, (c.requires.t_len.1.0, (search rules, c.requires.t_len.1.1)));

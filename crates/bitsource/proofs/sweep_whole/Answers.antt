@@ -32,6 +32,6 @@ returns c =
     let q = c.pass_kinds in
     bits_all a.grows a.s.now a.w a.h a.o a.words.now q.new.t _
     (λ i. let f = c.type_inv.s i in omega arith)
-    (λ i. let f = (goal.at.returns c).After-slice_known-3-1.slice_known-3-1.given i in omega arith) q.ensures
+    (λ i. let f = c.slice_known-3-1.given i in omega arith) q.ensures
     (q.auto.t ∙ g.auto.t ∙ c.requires.t_len)
     c.clear_padding.ensures

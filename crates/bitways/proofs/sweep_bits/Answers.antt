@@ -35,13 +35,13 @@ loop-y-init c =
     )
 
 pub overflow_mul-a : goal.overflow_mul-a
-overflow_mul-a c = omega (arith, room (goal.at.overflow_mul-a c).In-loop-y)
+overflow_mul-a c = omega (arith, room c)
 
 pub overflow_add-z : goal.overflow_add-z
-overflow_add-z c = omega (arith, room (goal.at.overflow_add-z c).In-loop-y)
+overflow_add-z c = omega (arith, room c)
 
 pub slice_bounds-any_row-end : goal.slice_bounds-any_row-end
-slice_bounds-any_row-end c = room (goal.at.slice_bounds-any_row-end c).In-loop-y
+slice_bounds-any_row-end c = room c
 
 pub any_row-requires : goal.any_row-requires
 any_row-requires c =

@@ -2,7 +2,7 @@ use Rattle.windows.proofs.InPlace.{widened_none, widened_more}
 use Rattle.windows.proofs.Places.{ahead_gathered}
 use Rattle.windows.specs.Steps.Widened.{widened_by}
 use Rattle.windows.specs.Steps.Places.{gathered_at}
-use mathlib.Core.List.{◌∷◌}
+use mathlib.Core.List.{[], ◌∷◌}
 use mathlib.Core.Path.{◌≡◌, refl, ap, ◌∙◌}
 use native.Mathlib.Omega.{arith}
 use borrow.Author.Rules.{rules}

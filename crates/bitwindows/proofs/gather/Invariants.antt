@@ -4,7 +4,7 @@
 use Rattle.windows.specs.Steps.Widened.{widened_by}
 use Rattle.windows.specs.Steps.Places.{gathered_at}
 use lib.ListN.{length}
-use mathlib.Core.List.{◌∷◌}
+use mathlib.Core.List.{[], ◌∷◌}
 use Prim.Native.Nat.{◌-◌, ◌≤◌}
 use mathlib.Core.Path.{◌≡◌}
 use Rattle.bitwindows.proofs.gather.Given as goal

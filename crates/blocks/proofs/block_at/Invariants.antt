@@ -9,7 +9,7 @@ use Rattle.blocks.proofs.block_at.Given as goal
 
 abbrev pub invariant-loop-i : goal.invariant-loop-i
 invariant-loop-i l =
-    (ii ≤ 64) × (l.c ≡ firsts (λ ii. get_or l.s (l.at + ii) 0) ii ++ replicate (64 - ii) 0)
+    (l.i ≤ 64) × (l.c ≡ firsts (λ i. get_or l.s (l.at + i) 0) l.i ++ replicate (64 - l.i) 0)
 
 abbrev pub decreases-loop-i : goal.decreases-loop-i
 decreases-loop-i l = 64 - l.i

@@ -9,8 +9,8 @@ use Rattle.blocks.proofs.join_bytes.Given as goal
 
 abbrev pub invariant-loop-i : goal.invariant-loop-i
 invariant-loop-i l =
-    (ii ≤ length l.initial.t) × (length l.t ≡ length l.initial.t)
-    × (l.t ≡ laid 0 ii (λ ii. join_packed l.grows (get_or l.initial.t ii 0) (get_or l.b ii 0)) l.initial.t)
+    (l.i ≤ length l.initial.t) × (length l.t ≡ length l.initial.t)
+    × (l.t ≡ laid 0 l.i (λ i. join_packed l.grows (get_or l.initial.t i 0) (get_or l.b i 0)) l.initial.t)
 
 abbrev pub decreases-loop-i : goal.decreases-loop-i
 decreases-loop-i l = length l.initial.t - l.i

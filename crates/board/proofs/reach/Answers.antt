@@ -1,79 +1,72 @@
-use Prim.Native.Nat.{◌+◌, ◌≤◌}
+use Prim.Native.Nat.{ℕ, ◌+◌, ◌≤◌, ◌<◌}
+use mathlib.Core.List.{List}
 use native.Mathlib.Omega.{arith}
 use lib.ListN.{length, get_or, take}
 use lib.Seq.{length-take-le}
-use borrow.Author.Rules.{rules}
+use Rattle.morphology.specs.Chain.{most_links}
+use Rattle.reach.specs.declared.Link.{Link}
+use Rattle.reach.specs.declared.Bounds.{Bounds}
 use Rattle.reach.specs.Steps.Links.{empty_link}
-use Rattle.reach.specs.Steps.Boards.{Small}
-use Rattle.reach.proofs.Loops.{rest_start, rest_more, rest_all, rest_small, narrow_here}
+use Rattle.reach.specs.Steps.Boards.{Small, Linked}
+use Rattle.reach.proofs.Loops.{Rest, rest_start, rest_more, rest_all, rest_small, narrow_here}
 use Rattle.board.proofs.reach.Goals as goal
-use Rattle.board.proofs.reach.Goals.{After-struct_known-1, Start}
 
-abbrev Inside : Type 0
-Inside = tie.In-loop invariant-loop decreases-loop
-
-abbrev entry : Inside → Start
-entry c = c
-
-few : (c : Inside) → (entry c).args.k ≤ length (entry c).args.t1
-few c = let n = (entry c).well-formed.0.1.0.1 in omega (arith, (entry c).requires.0.few)
-
--- the origins so far, with that of link i
-little : (c : Inside) → let l = c.before.loop in
-    let o = (get_or (entry c).args.t1 l.i empty_link).outline.origin in
-    Small (record { column = l.column + o.ping.0; row = l.row + o.bin.0 })
-little c =
-    let s = entry c in
-    let l = c.before.loop in
-    rest_small s.args.t1 s.args.k l.i (few c)
-    c.loop-test.true s.args.m l.words l.words
-    l.column l.row l.invariant.1 s.pre.0.small s.pre.0.few
-
-abbrev link-known : After-struct_known-1 → Inside
-link-known c = c.before.before.before.before.before.before
+module _ (links : List Link) (k : ℕ) (m : Bounds) (long : length links ≡ most_links) (l : Linked links k)
+    (words : List ℕ) (column row i : ℕ) (more : i < k) (r : Rest m (take k links) words column row i) where
+  -- the origins so far, with that of link i
+  little : let o = (get_or links i empty_link).outline.origin in
+      Small (record { column = column + o.ping.0; row = row + o.bin.0 })
+  little = rest_small links k i (omega (arith, l.few)) more m words words column row r l.small l.few
 
 pub loop-i-init : goal.loop-i-init
-loop-i-init c = (search rules, rest_start _ _ _ c.start-words.ensures)
+loop-i-init c = (omega arith, rest_start _ _ _ c.start-words.ensures)
 
 pub overflow_cast-column : goal.overflow_cast-column
 overflow_cast-column c =
-    let z = little (link-known (goal.at.overflow_cast-column c).After-struct_known-1) in omega arith
+    let l = c.loop-i in
+    let z = little c.args.links c.args.k c.args.m ? c.requires.linked l.words l.column l.row l.i
+    c.loop-i-test.true l.invariant.1 in omega arith
 
 pub overflow_add-column : goal.overflow_add-column
 overflow_add-column c =
-    let z = little (link-known (goal.at.overflow_add-column c).After-struct_known-1) in omega arith
+    let l = c.loop-i in
+    let z = little c.args.links c.args.k c.args.m ? c.requires.linked l.words l.column l.row l.i
+    c.loop-i-test.true l.invariant.1 in omega arith
 
 pub overflow_cast-row : goal.overflow_cast-row
 overflow_cast-row c =
-    let z = little (link-known (goal.at.overflow_cast-row c).After-struct_known-1) in omega arith
+    let l = c.loop-i in
+    let z = little c.args.links c.args.k c.args.m ? c.requires.linked l.words l.column l.row l.i
+    c.loop-i-test.true l.invariant.1 in omega arith
 
 pub overflow_add-row : goal.overflow_add-row
 overflow_add-row c =
-    let z = little (link-known (goal.at.overflow_add-row c).After-struct_known-1) in omega arith
+    let l = c.loop-i in
+    let z = little c.args.links c.args.k c.args.m ? c.requires.linked l.words l.column l.row l.i
+    c.loop-i-test.true l.invariant.1 in omega arith
 
 pub onward-words-requires : goal.onward-words-requires
 onward-words-requires c =
-    let b = link-known (goal.at.onward-words-requires c).After-struct_known-1 in
-    let s = entry b in (
-      narrow_here s.args.t1 s.args.k b.before.loop.i
-          (few b) b.loop-test.taken s.pre.0.small,
-      (s.pre.1, little b),
-    )
+    let l = c.loop-i in
+    let h = c.well_formed in
+    let z = little c.args.links c.args.k c.args.m ? c.requires.linked l.words l.column l.row l.i
+    c.loop-i-test.true l.invariant.1 in
+    record {
+      w_le_most_cells = narrow_here c.args.links c.args.k l.i ? c.loop-i-test.true c.requires.linked.small;
+      in_bytes = c.requires.in_bytes;
+      small = z;
+    }
 
 pub loop-i-preserved : goal.loop-i-preserved
 loop-i-preserved c =
-    let b = link-known (goal.at.loop-i-preserved c).After-struct_known-1 in
-    let s = entry b in
-    let l = b.before.loop in (
-      search rules,
-      rest_more s.args.t1 s.args.k l.i (few b) b.loop-test.taken s.args.m l.words
-          c.onward-words.result l.column l.row l.inv.1 c.onward-words.ensures,
+    let l = c.loop-i in (
+      omega arith,
+      rest_more c.args.links c.args.k l.i ? c.loop-i-test.true c.args.m l.words
+          c.onward-words.result l.column l.row l.invariant.1 c.onward-words.ensures,
     )
 
 pub returns : goal.returns
 returns c =
-    ? -- let s = c.before.before.before in
-    --     let l = c.before.loop in
-    --     let n = s.well-formed.0.1.0.1 in
-    --     rest_all s.args.m (take s.args.k s.args.t1) l.words l.column l.row l.i l.invariant.1
-    --     (omega (arith, length-take-le s.args.k s.args.t1 (omega arith)))
+    let l = c.loop-i in
+    rest_all c.args.m (take c.args.k c.args.links) l.words l.column l.row l.i l.invariant.1
+    (omega (arith, length-take-le c.args.k c.args.links (omega arith)))

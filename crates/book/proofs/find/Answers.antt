@@ -24,15 +24,15 @@ ends : (c : After-share_at-base)
     → c.share_at-base.result + share_long ≤ length c.args.book.now
 ends c = let a = c.args in
     part_end a.book.now a.party _ c.share_at-base.ensures.0
-    (got_made a.book.now a.party a.n (done c.before))
+    (got_made a.book.now a.party a.n (done (goal.at.After-share_at-base c).Then-is_done))
 
 within : (c : After-share_at-base) → let a = c.args in let at = c.share_at-base.result in
     Within numbers a.n (mid_of at (at + share_long - at) a.book.now)
 within c = let a = c.args in
-    got_within a.book.now a.party a.n (done c.before) _ c.share_at-base.ensures.0
+    got_within a.book.now a.party a.n (done (goal.at.After-share_at-base c).Then-is_done) _ c.share_at-base.ensures.0
 
 pub slice_bounds-place_of-end : goal.slice_bounds-place_of-end
-slice_bounds-place_of-end c = ends (goal.at.slice_bounds-place_of-end c).After-share_at-base
+slice_bounds-place_of-end c = ends c
 
 pub place_of-requires : goal.place_of-requires
 place_of-requires c = within (goal.at.place_of-requires c).After-share_at-base

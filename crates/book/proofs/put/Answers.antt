@@ -28,7 +28,7 @@ put-requires c =
 pub returns-then-book_made : goal.returns-then-book_made
 returns-then-book_made c =
     let a = c.args in
-    let e = (c.put.ensures.answer, c.put.ensures.bytes) in (
+    (
       call_answer a.book.now a.party _ c.share_at-at.ensures.0 (kept (goal.at.returns-then-book_made c).Then-book_made) (Put a.n a.d.now)
           _ c.put.ensures.answer,
       call_after a.book.now a.party _ c.share_at-at.ensures.0 (kept (goal.at.returns-then-book_made c).Then-book_made) (Put a.n a.d.now)
@@ -38,6 +38,6 @@ returns-then-book_made c =
 pub returns : goal.returns
 returns c =
     let a = c.args in record {
-      answer = broken_answer a.book.now a.party (Put a.n a.d.now) (broken (goal.at.returns c).Else-book_made);
-      bytes = broken_after a.book.now a.party (Put a.n a.d.now) (broken (goal.at.returns c).Else-book_made);
+      answer = broken_answer a.book.now a.party (Put a.n a.d.now) (broken c);
+      bytes = broken_after a.book.now a.party (Put a.n a.d.now) (broken c);
     }

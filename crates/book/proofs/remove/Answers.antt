@@ -28,7 +28,7 @@ remove-requires c =
 pub returns-then-book_made : goal.returns-then-book_made
 returns-then-book_made c =
     let a = c.args in
-    let e = (c.remove.ensures.answer, c.remove.ensures.bytes) in (
+    (
       call_answer a.book.now a.party _ c.share_at-at.ensures.0 (kept (goal.at.returns-then-book_made c).Then-book_made) (Remove a.n) _ c.remove.ensures.answer,
       call_after a.book.now a.party _ c.share_at-at.ensures.0 (kept (goal.at.returns-then-book_made c).Then-book_made) (Remove a.n) _ c.remove.ensures.bytes,
     )
@@ -36,6 +36,6 @@ returns-then-book_made c =
 pub returns : goal.returns
 returns c =
     let a = c.args in record {
-      answer = broken_answer a.book.now a.party (Remove a.n) (broken (goal.at.returns c).Else-book_made);
-      bytes = broken_after a.book.now a.party (Remove a.n) (broken (goal.at.returns c).Else-book_made);
+      answer = broken_answer a.book.now a.party (Remove a.n) (broken c);
+      bytes = broken_after a.book.now a.party (Remove a.n) (broken c);
     }

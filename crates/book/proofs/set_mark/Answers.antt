@@ -3,7 +3,7 @@
 use Rattle.book.specs.Book.{version}
 use lib.ListN.{length-set}
 use native.Mathlib.Omega.{arith}
-use mathlib.Core.List.{◌∷◌}
+use mathlib.Core.List.{[], ◌∷◌}
 use lib.Seq.{sets-eq}
 use Rattle.book.proofs.set_mark.Goals as goal
 

@@ -38,6 +38,6 @@ returns-then-book_made c =
 pub returns : goal.returns
 returns c =
     let a = c.args in record {
-      answer = broken_answer a.book.now a.party Tidy (broken (goal.at.returns c).Else-book_made);
-      bytes = broken_after a.book.now a.party Tidy (broken (goal.at.returns c).Else-book_made);
+      answer = broken_answer a.book.now a.party Tidy (broken c);
+      bytes = broken_after a.book.now a.party Tidy (broken c);
     }

@@ -20,7 +20,7 @@ use Rattle.boxpair.proofs.lower.Goals.{After-side_of-side}
 -- once the sizes are known: the row lies in the target, and the padded row in its room
 module _ (c : After-side_of-side) where
   abbrev s : tie.Start
-  s = c.before.before.before.before.before.before
+  s = c.before.before.before.before.before.before.before
 
   n : c.bytes_of-n.result ≡ row_bytes (depth_if s.args.packed) s.args.w
   n = c.bytes_of-n.ensures
@@ -40,16 +40,16 @@ pub overflow_add-e : goal.overflow_add-e
 overflow_add-e c =
     omega (
   arith,
-  few (goal.at.overflow_add-e c).After-side_of-side,
+  few c,
   c.side_of-side.ensures,
   side_few c.args.packed,
 )
 
 pub overflow_mul-c : goal.overflow_mul-c
-overflow_mul-c c = omega (arith, room_z (goal.at.overflow_mul-c c).After-side_of-side)
+overflow_mul-c c = omega (arith, room_z c)
 
 pub overflow_add-d : goal.overflow_add-d
-overflow_add-d c = omega (arith, room_z (goal.at.overflow_add-d c).After-side_of-side)
+overflow_add-d c = omega (arith, room_z c)
 
 pub margins-requires : goal.margins-requires
 margins-requires c =
@@ -78,7 +78,6 @@ returns c =
     let a = c.args in
     let m = c.margins in
     let f = c.copy_from in
-    let r = (c.along.ensures.row, (c.along.ensures.known, c.along.ensures.left)) in
     let k = row_bytes (depth_if a.packed) a.w in
     let long = part_length m.new.b c.side_of-side.result c.bytes_of-n.result
     (omega (arith, room_b (goal.at.returns c).After-bytes_of-n, m.auto.b)) ∙ n (goal.at.returns c).After-bytes_of-n in

@@ -36,7 +36,7 @@ returns-then-packed c =
     let n = c.lesser.ensures in
     let l = c.lesser-2.ensures in
     let q = c.if-packed.true in
-    let r = (c.along_bits.ensures.row, (c.along_bits.ensures.known, c.along_bits.ensures.left)) in (
+    (
       along_as a.packed a.grows a.w a.o a.wide _ _ _ _ m f n l true q a.b.now _ c.along_bits.ensures.row,
       (
         c.along_bits.ensures.known,
@@ -60,7 +60,7 @@ returns c =
     let n = c.lesser.ensures in
     let l = c.lesser-2.ensures in
     let q = c.if-packed.false in
-    let r = (c.along_bytes.ensures.row, (c.along_bytes.ensures.known, c.along_bytes.ensures.left)) in record {
+    record {
       row = along_as a.packed a.grows a.w a.o a.wide _ _ _ _ m f n l false q a.b.now _ c.along_bytes.ensures.row;
       known = c.along_bytes.ensures.known;
       left = left_as a.packed a.grows a.w a.o a.wide _ _ _ _ m f n l false q a.b.now _

@@ -10,7 +10,7 @@ returns c =
       row = bytes_row a.grows a.w a.m a.p a.q a.r a.s _ a.b.now _ _ c.requires.target
           c.windows.ensures
           c.lay.ensures;
-      known = λ i. let f = (goal.at.returns c).After-slice_known-1.slice_known-1.given i in omega arith;
+      known = λ i. let f = c.slice_known-1.given i in omega arith;
       left = bytes_left_lem a.grows a.w a.m a.p a.q a.r a.s a.b.now _
             c.windows.ensures;
     }

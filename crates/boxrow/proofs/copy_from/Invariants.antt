@@ -8,8 +8,8 @@ use Rattle.boxrow.proofs.copy_from.Given as goal
 
 abbrev pub invariant-loop-i : goal.invariant-loop-i
 invariant-loop-i l =
-    (ii ≤ length l.initial.row) × (length l.row ≡ length l.initial.row) × (l.row ≡ laid 0 ii (λ ii. get_or l.t
-    (l.at + ii) 0) l.initial.row)
+    (l.i ≤ length l.initial.row) × (length l.row ≡ length l.initial.row) × (l.row ≡ laid 0 l.i (λ i. get_or l.t
+    (l.at + i) 0) l.initial.row)
 
 abbrev pub decreases-loop-i : goal.decreases-loop-i
 decreases-loop-i l = length l.initial.row - l.i

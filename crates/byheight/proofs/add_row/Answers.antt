@@ -32,7 +32,6 @@ room e = omega (
 small : (e : Else-h-y) → let a = e.args in
     e.source_row-y.result * a.w + a.w ≤ 256 * 1024
 small e = let a = e.args in
-    let p = (e.requires.ready, (e.requires.t_len, (e.requires.fits, (e.requires.listed, (e.requires.padded, e.requires.part_2))))) in
     let l = mul-le-mul {n₁ = a.h} {m₁ = a.w} {n₂ = 256} {m₂ = 1024} e.requires.ready.few_bins e.requires.ready.few_pings in
     omega (arith, room e, e.requires.t_len.0, l)
 
@@ -118,8 +117,8 @@ join_marked-requires c =
       b_len = (
           c.requires.padded.values,
           (
-            subst Near (sym u) (cells_near a.grows true _ _ _ _ _ _ _ wide (origin_lt (goal.at.join_marked-requires c).Start) (up (goal.at.join_marked-requires c).Start)),
-            subst Near (sym d) (cells_near a.grows false _ _ _ _ _ _ _ wide (origin_lt (goal.at.join_marked-requires c).Start) (down (goal.at.join_marked-requires c).Start)),
+            subst Near (sym u) (cells_near a.grows true _ _ _ _ _ _ _ wide (origin_lt c.before.before.before.before.before.before.before.before.before.before.before.before.before.before.before.before.before.before.before.before) (up c.before.before.before.before.before.before.before.before.before.before.before.before.before.before.before.before.before.before.before.before)),
+            subst Near (sym d) (cells_near a.grows false _ _ _ _ _ _ _ wide (origin_lt c.before.before.before.before.before.before.before.before.before.before.before.before.before.before.before.before.before.before.before.before) (down c.before.before.before.before.before.before.before.before.before.before.before.before.before.before.before.before.before.before.before.before)),
           ),
         );
       sure = (
@@ -129,7 +128,7 @@ join_marked-requires c =
               (sym (get_mid (y * a.w) (y * a.w + a.w - y * a.w) a.t.now i
               (omega (arith, h', add-sub_cancel_left (y * a.w) a.w))))
               (c.requires.fits.1.1 y c.if-h-y.false q i h'),
-          subst (λ l. Under l 128) (sym u) (cells_under a.grows _ _ _ _ _ _ _ (up (goal.at.join_marked-requires c).Start)),
+          subst (λ l. Under l 128) (sym u) (cells_under a.grows _ _ _ _ _ _ _ (up c.before.before.before.before.before.before.before.before.before.before.before.before.before.before.before.before.before.before.before.before)),
         );
     }
 
@@ -169,7 +168,7 @@ returns c =
           (row_at a.s.now a.w a.v.0)
           (row_long a.s.now a.w a.h a.v.0 c.requires.t_len.1.0 c.requires.ready.source)
           c.requires.padded (get_or a.ups.now a.i 0) (get_or a.downs.now a.i 0)
-          (drop p a.rising.now) (drop p a.others.now) (up (goal.at.returns c).Start) (down (goal.at.returns c).Start)
+          (drop p a.rising.now) (drop p a.others.now) (up c.before.before.before.before.before.before.before.before.before.before.before.before.before.before.before.before.before.before.before.before.before.before.before) (down c.before.before.before.before.before.before.before.before.before.before.before.before.before.before.before.before.before.before.before.before.before.before.before)
           (j.ensures.bytes ∙ ap₂ (λ u d. weighed_row a.grows a.b.now u d
           (mid_of (y.result * a.w) (y.result * a.w + a.w - y.result * a.w) a.t.now))
           c.cells_of-up.ensures c.cells_of-down.ensures)

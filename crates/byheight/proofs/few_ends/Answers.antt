@@ -22,12 +22,10 @@ pub loop-i-init : goal.loop-i-init
 loop-i-init c = (search rules, search rules)
 
 pub overflow_add-n : goal.overflow_add-n
-overflow_add-n c =
-    omega (arith, adds (goal.at.overflow_add-n c).After-shared_slice_known-in-loop-i-1)
+overflow_add-n c = omega (arith, adds c)
 
 pub loop-i-preserved : goal.loop-i-preserved
-loop-i-preserved c =
-    (omega (arith, adds (goal.at.loop-i-preserved c).After-shared_slice_known-in-loop-i-1), omega arith)
+loop-i-preserved c = (omega (arith, adds c), omega arith)
 
 pub overflow_mul-result : goal.overflow_mul-result
 overflow_mul-result c = omega arith

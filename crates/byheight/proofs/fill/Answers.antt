@@ -19,7 +19,7 @@ pub copy_over-requires : goal.copy_over-requires
 copy_over-requires c =
     omega (
   arith,
-  long (goal.at.copy_over-requires c).Start,
+  long c.before.before.before.before,
   c.requires.s_len_bound,
 )
 

@@ -11,7 +11,6 @@ use Rattle.byheight.proofs.join_marked.Goals as goal
 
 pub join_row-requires : goal.join_row-requires
 join_row-requires c =
-    let p = (c.requires.t_len_bound, (c.requires.b_len, c.requires.sure)) in
     record {
       t_len_bound = c.requires.t_len_bound;
       b_len = c.requires.b_len;

@@ -70,7 +70,7 @@ down_part g = part_length g.before.loop.others (g.before.loop.i * (entry g).args
 
 -- both sides of the row, as they are found
 abbrev turn : After-cells_both-k → Turn
-turn c = c.before.before.before.before.before.before.before
+turn c = (goal.at.After-cells_both-k c).In-loop-i
 
 up : (c : After-cells_both-k) → let a = (entry (turn c)).args in
     let r = a.from + (turn c).before.loop.i in
@@ -98,7 +98,7 @@ pub loop-i-init : goal.loop-i-init
 loop-i-init c = (zero-le, c.requires.listed)
 
 pub overflow_add-r : goal.overflow_add-r
-overflow_add-r c = omega (arith, far (goal.at.overflow_add-r c).In-loop-i)
+overflow_add-r c = omega (arith, far c)
 
 pub overflow_mul-a : goal.overflow_mul-a
 overflow_mul-a c = omega (arith, room (goal.at.overflow_mul-a c).In-loop-i)
@@ -198,20 +198,16 @@ loop-i-preserved c =
     )
 
 pub shape_of-rising : goal.shape_of-rising
-shape_of-rising c =
-    c.loop-i.invariant.1.up_room ∙ sym (entered (goal.at.shape_of-rising c).After-loop-i).up_room
+shape_of-rising c = c.loop-i.invariant.1.up_room ∙ sym (entered c).up_room
 
 pub shape_of-others : goal.shape_of-others
-shape_of-others c =
-    c.loop-i.invariant.1.down_room ∙ sym (entered (goal.at.shape_of-others c).After-loop-i).down_room
+shape_of-others c = c.loop-i.invariant.1.down_room ∙ sym (entered c).down_room
 
 pub shape_of-ups : goal.shape_of-ups
-shape_of-ups c =
-    c.loop-i.invariant.1.up_counts ∙ sym (entered (goal.at.shape_of-ups c).After-loop-i).up_counts
+shape_of-ups c = c.loop-i.invariant.1.up_counts ∙ sym (entered c).up_counts
 
 pub shape_of-downs : goal.shape_of-downs
-shape_of-downs c =
-    c.loop-i.invariant.1.down_counts ∙ sym (entered (goal.at.shape_of-downs c).After-loop-i).down_counts
+shape_of-downs c = c.loop-i.invariant.1.down_counts ∙ sym (entered c).down_counts
 
 pub returns : goal.returns
 returns c =

@@ -65,7 +65,6 @@ slice_bounds-add_row-end c = sym c.fill.auto.b
 pub add_row-requires : goal.add_row-requires
 add_row-requires c =
     let a = c.args in
-    let p = (c.requires.ready, (c.requires.t_len, (c.requires.fits, (c.requires.listed, c.requires.part_2)))) in
     let l = c.loop-i in
     let f = c.fill in
     let b = subst (λ r. Padded a.grows r f.new.b) (row_is (goal.at.add_row-requires c).After-row_of-row) f.ensures in record {

@@ -70,7 +70,6 @@ slice_bounds-source_row-end-in-loop-v-4 c = sym c.loop-v.invariant.2.down_counts
 
 pub source_row-requires : goal.source_row-requires
 source_row-requires c =
-    let p = (c.requires.ready, (c.requires.t_len, c.requires.part)) in
     let l = c.loop-v in
     let v = c.loop-v-test.true in
     record {

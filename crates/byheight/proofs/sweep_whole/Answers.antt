@@ -23,7 +23,6 @@ rows_at_once-n-requires c = let p = c.requires.ready in (omega (arith, p.column)
 pub sweep_rows-requires : goal.sweep_rows-requires
 sweep_rows-requires c =
     let a = c.args in
-    let p = (c.requires.ready, c.requires.t_len) in
     let l = c.loop-r in
     let n = c.rows_at_once-n in record {
       ready = c.requires.ready;

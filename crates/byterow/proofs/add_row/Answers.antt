@@ -29,18 +29,17 @@ pub slice_bounds-fold_row-end : goal.slice_bounds-fold_row-end
 slice_bounds-fold_row-end c = room (goal.at.slice_bounds-fold_row-end c).Then-v-h
 
 pub overflow_mul-r : goal.overflow_mul-r
-overflow_mul-r c = omega (arith, near (goal.at.overflow_mul-r c).After-struct_known-1)
+overflow_mul-r c = omega (arith, near (goal.at.overflow_mul-r c).Then-v-h)
 
 pub fold_row-requires : goal.fold_row-requires
 fold_row-requires c =
-    let p = (c.requires.ready, c.requires.t_len) in
     record {
       few_pings = c.requires.ready.few_pings;
       target = c.requires.t_len.0;
-      source = part_length c.args.s.now _ _ (room (goal.at.fold_row-requires c).After-struct_known-1);
+      source = part_length c.args.s.now _ _ (room (goal.at.fold_row-requires c).Then-v-h);
       few_wide = c.requires.ready.few_wide;
       origin_in = c.requires.ready.column;
-      near = near (goal.at.fold_row-requires c).After-struct_known-1;
+      near = near (goal.at.fold_row-requires c).Then-v-h;
     }
 
 pub returns-then-v-h : goal.returns-then-v-h

@@ -16,7 +16,7 @@ loop-r-init c =
 
 pub add_row-requires : goal.add_row-requires
 add_row-requires c =
-    let p = (c.requires.ready, c.requires.t_len) in record {
+    record {
       ready = c.requires.ready;
       t_len = (
         c.loop-r.invariant.1

@@ -55,7 +55,7 @@ slice_bounds-step-end c =
 pub step-requires : goal.step-requires
 step-requires c =
     let a = c.args in
-    let p = (c.requires.x_lt_w, c.requires.across) in record {
+    record {
       by_index = λ i l. omega (
         arith,
         c.requires.across.long,
@@ -74,7 +74,6 @@ step-requires c =
 pub returns : goal.returns
 returns c =
     let a = c.args in
-    let p = (c.requires.x_lt_w, c.requires.across) in
     column_made a.grows a.s.now a.w a.h a.o a.words.now
     (λ i. let f = c.type_inv.s i in omega arith) c.requires.middle
     c.requires.ready.column c.requires.ready.row a.at.now c.requires.x_lt_w.1 a.x c.pick-k.result

@@ -20,10 +20,10 @@ pub loop-y-init : goal.loop-y-init
 loop-y-init c = (omega arith, (c.requires.from_le_to.0, c.requires.down))
 
 pub overflow_mul-a : goal.overflow_mul-a
-overflow_mul-a c = omega (arith, room (goal.at.overflow_mul-a c).In-loop-y)
+overflow_mul-a c = omega (arith, room c)
 
 pub overflow_add-z : goal.overflow_add-z
-overflow_add-z c = omega (arith, room (goal.at.overflow_add-z c).In-loop-y)
+overflow_add-z c = omega (arith, room c)
 
 pub slice_bounds-make_row-end : goal.slice_bounds-make_row-end
 slice_bounds-make_row-end c = room (goal.at.slice_bounds-make_row-end c).At-loop-y

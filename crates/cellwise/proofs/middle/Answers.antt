@@ -27,7 +27,7 @@ overflow_add-up c =
 pub lay-requires : goal.lay-requires
 lay-requires c =
     let a = c.args in
-    let p = (c.requires.at_nonzero, (c.requires.places, c.requires.t_len)) in record {
+    record {
       at_nonzero = (
         c.requires.at_nonzero.0,
         (
@@ -54,7 +54,7 @@ lay-requires c =
 pub columns-requires : goal.columns-requires
 columns-requires c =
     let a = c.args in
-    let p = (c.requires.at_nonzero, (c.requires.places, c.requires.t_len)) in record {
+    record {
       ready = c.requires.ready;
       middle = c.requires.middle;
       from_le_to = (
@@ -78,7 +78,7 @@ columns-requires c =
 pub columns-requires-2 : goal.columns-requires-2
 columns-requires-2 c =
     let a = c.args in
-    let p = (c.requires.at_nonzero, (c.requires.places, c.requires.t_len)) in record {
+    record {
       ready = c.requires.ready;
       middle = c.requires.middle;
       from_le_to = (

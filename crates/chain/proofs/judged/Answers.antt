@@ -3,7 +3,6 @@
 use mathlib.Core.Path.{◌≡◌, sym, ap, ◌∙◌}
 use mathlib.Core.Bool.{true}
 use native.Mathlib.Omega.{arith}
-use borrow.Author.Tests.{not-true, not-false}
 use Rattle.answer.specs.Answer.{told, plain, is_done}
 use Rattle.element.proofs.WellMade.{made_cells}
 use Rattle.faults.specs.Verdicts.{answer_of}
@@ -13,13 +12,13 @@ use Rattle.chain.proofs.judged.Goals as goal
 use Rattle.chain.proofs.judged.Goals.{Else-not-is_done}
 
 done : (c : Else-not-is_done) → is_done (told c.args.read.answer) ≡ true
-done c = sym c.is_done.ensures ∙ not-false c.is_done.result c.if-not-is_done.false
+done c = sym c.is_done.ensures ∙ c.if-not-is_done.false
 
 pub returns-then-not-is_done : goal.returns-then-not-is_done
 unfolding checked
 returns-then-not-is_done c =
     check_refused _ _ _ _ c.requires.element_value.0 c.requires.element_value.1 c.args.read c.requires.read_as
-    (sym c.is_done.ensures ∙ not-true c.is_done.result c.if-not-is_done.true)
+    (sym c.is_done.ensures ∙ c.if-not-is_done.true)
 
 pub element_at-e-requires : goal.element_at-e-requires
 element_at-e-requires c = made_cells _ c.requires.element_value.0

@@ -3,7 +3,6 @@ use mathlib.Core.Path.{refl, sym, ◌∙◌}
 use mathlib.Core.Bool.{true}
 use native.Mathlib.Omega.{arith}
 use lib.ListN.{length, length-replicate}
-use borrow.Author.Tests.{not-true, not-false}
 use borrow.Author.Rules.{rules}
 use Rattle.answer.specs.Answer.{is_done}
 use Rattle.morphology.specs.Chain.{most_links}
@@ -28,14 +27,13 @@ pub slice_bounds-descriptor_len-start : goal.slice_bounds-descriptor_len-start
 slice_bounds-descriptor_len-start c = c.loop-i.invariant.1.inside
 
 pub overflow_add-end : goal.overflow_add-end
-overflow_add-end c =
-    let z = ends (goal.at.overflow_add-end c).After-descriptor_len in omega arith
+overflow_add-end c = let z = ends c in omega arith
 
 pub returns-then-not-is_done : goal.returns-then-not-is_done
 returns-then-not-is_done c =
     link_refused _ _ _ _ _ c.loop-i.invariant.1 c.loop-i-test.true _ c.descriptor_len.ensures
     _ _ c.read_link-read.ensures
-    (sym c.is_done.ensures ∙ not-true c.is_done.result c.if-not-is_done.true) _ refl
+    (sym c.is_done.ensures ∙ c.if-not-is_done.true) _ refl
 
 pub loop-i-preserved : goal.loop-i-preserved
 loop-i-preserved c =
@@ -43,7 +41,7 @@ loop-i-preserved c =
       search rules,
       link_taken _ _ _ _ _ c.loop-i.invariant.1 c.loop-i-test.true _ c.descriptor_len.ensures
           _ _ c.read_link-read.ensures
-          (sym c.is_done.ensures ∙ not-false c.is_done.result c.if-not-is_done.false)
+          (sym c.is_done.ensures ∙ c.if-not-is_done.false)
           c.requires,
     )
 

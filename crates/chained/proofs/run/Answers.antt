@@ -29,7 +29,7 @@ done c = sym c.is_done.ensures ∙ c.if-is_done.true
 
 module _ (t : Then-is_done) where
   abbrev judged : tie.After-refusal
-  judged = t.before.before
+  judged = (goal.at.Then-is_done t).After-refusal-no
 
   asked : let a = (entry judged).args in
       Linked a.depth a.w a.h (length a.source.now) a.links a.chain.now
@@ -58,7 +58,6 @@ run_links-requires c = asked (goal.at.run_links-requires c).Then-is_done
 
 pub returns-then-grows : goal.returns-then-grows
 returns-then-grows c =
-    let r = (c.run_links.ensures.first, c.run_links.ensures.second) in
     let a = c.args in (
       answered (goal.at.returns-then-grows c).After-refusal-no,
       (
@@ -75,7 +74,6 @@ run_links-requires-then-is_done c =
 
 pub returns-then-is_done : goal.returns-then-is_done
 returns-then-is_done c =
-    let r = (c.run_links-then-is_done.ensures.first, c.run_links-then-is_done.ensures.second) in
     let a = c.args in (
       answered (goal.at.returns-then-is_done c).After-refusal-no,
       (

@@ -18,7 +18,7 @@ each_link-requires c =
 pub returns : goal.returns
 returns c =
     let a = c.args in
-    let e = (c.each_link.ensures.first, c.each_link.ensures.second) in record {
+    record {
       first = first_left a.depth a.grows a.w a.h a.source.now a.links a.chain.now
           a.first.now a.second.now c.read_links-read.result c.requires c.read_links-read.ensures
           (chain_bytes (goal.at.returns c).After-read_links-read) _ c.each_link.ensures.first;

@@ -5,7 +5,6 @@ use mathlib.Core.Path.{◌≡◌, refl, sym, ap, ap₂, ◌∙◌, subst}
 use mathlib.Core.Bool.{true, false}
 use mathlib.Core.List.{◌++◌}
 use native.Mathlib.Omega.{arith}
-use borrow.Author.Tests.{not-true, not-false}
 use lib.ListN.{length, drop}
 use Rattle.answer.specs.Answer.{told, is_done}
 use Rattle.element.specs.declared.Element.{Element}
@@ -26,13 +25,13 @@ use Rattle.chainfor.proofs.find_chain.Goals.{After-hull_of-hull, Else-down-gt-MO
 
 made : (c : Else-not-is_done) → well_made c.args.element.now ≡ true
 made c = read_made _ c.read_element-read.result c.read_element-read.ensures
-    (sym c.is_done.ensures ∙ not-false c.is_done.result c.if-not-is_done.false)
+    (sym c.is_done.ensures ∙ c.if-not-is_done.false)
 
 -- what was measured
 hulled : (c : After-hull_of-hull)
     → c.hull_of-hull.result ≡ hull_in c.args.element.now
 hulled c = c.hull_of-hull.ensures
-    ∙ hull_in_lem _ _ (made_element _ c.read_element-read.result c.read_element-read.ensures (made c.before))
+    ∙ hull_in_lem _ _ (made_element _ c.read_element-read.result c.read_element-read.ensures (made (goal.at.After-hull_of-hull c).Else-not-is_done))
 
 near : (c : Else-down-gt-MOST_SPAN) → within c.hull_of-hull.result ≡ true
 near c = within_near _ (omega arith) (omega arith)
@@ -41,7 +40,7 @@ pub returns-then-not-is_done : goal.returns-then-not-is_done
 unfolding told
 returns-then-not-is_done c =
     let no = sym c.is_done.ensures
-    ∙ not-true c.is_done.result c.if-not-is_done.true in
+    ∙ c.if-not-is_done.true in
     let u = read_unmade _ c.read_element-read.result c.read_element-read.ensures no in
     let e = c.refused.ensures in
     refused_so _ _ _ 4 (omega arith) (find_unmade _ _ u)
@@ -51,8 +50,8 @@ returns-then-not-is_done c =
 pub hull_of-hull-requires : goal.hull_of-hull-requires
 unfolding element_of
 hull_of-hull-requires c =
-    let e = sym (made_element _ c.read_element-read.result c.read_element-read.ensures (made (goal.at.hull_of-hull-requires c).Else-not-is_done)) in
-    let t = cells_tell _ (made_cells _ (made (goal.at.hull_of-hull-requires c).Else-not-is_done)) in (
+    let e = sym (made_element _ c.read_element-read.result c.read_element-read.ensures (made c)) in
+    let t = cells_tell _ (made_cells _ (made c)) in (
       subst (λ (x : Element). x.outline.w ≤ most_cells) e t.few_wide,
       subst (λ (x : Element). x.outline.h ≤ most_cells) e t.few_high,
     )

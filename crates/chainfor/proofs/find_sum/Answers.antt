@@ -3,7 +3,6 @@
 use mathlib.Core.Path.{refl, sym, ap, ◌∙◌}
 use mathlib.Core.Bool.{not}
 use native.Mathlib.Omega.{arith}
-use borrow.Author.Tests.{not-true, not-false}
 use lib.ListN.{length}
 use Rattle.answer.specs.Answer.{told}
 use Rattle.chainfor.proofs.Sums.{sum_cut, sum_chain_lem, sum_links_lem, sum_bytes_are, sum_copied, sum_fits}
@@ -18,7 +17,7 @@ unfolding told
 returns-then-not-is_done c =
     let f = sum_fits _ _ _ _ c.sum_bytes-work.ensures c.lesser-links.ensures refl _ _ _
     c.check_chain.ensures c.is_done.ensures in
-    let no = sym f ∙ not-true c.is_done.result c.if-not-is_done.true in
+    let no = sym f ∙ c.if-not-is_done.true in
     let e = c.refused.ensures in
     sum_refused_so _ _ _ _ 18 (omega arith) (sum_none _ _ _ no) (ap told e.0) e.1.0 e.1.1.0
     (e.1.1.1 ∙ sym (ap not no))
@@ -28,7 +27,7 @@ unfolding told
 returns-then-chain-n c =
     let f = sum_fits _ _ _ _ c.sum_bytes-work.ensures c.lesser-links.ensures refl _ _ _
     c.check_chain.ensures c.is_done.ensures in
-    let yes = sym f ∙ not-false c.is_done.result c.if-not-is_done.false in
+    let yes = sym f ∙ c.if-not-is_done.false in
     let n = sum_bytes_are _ _ _ _ c.sum_bytes-work.ensures c.lesser-links.ensures refl in
     let e = c.refused-then-chain-n.ensures in
     sum_refused_so _ _ _ _ 8 (omega arith) (sum_cramped _ _ _ yes (omega (arith, n))) (ap told e.0)
@@ -46,7 +45,7 @@ unfolding told
 returns c =
     let f = sum_fits _ _ _ _ c.sum_bytes-work.ensures c.lesser-links.ensures refl _ _ _
     c.check_chain.ensures c.is_done.ensures in
-    let yes = sym f ∙ not-false c.is_done.result c.if-not-is_done.false in
+    let yes = sym f ∙ c.if-not-is_done.false in
     let eb = c.sum_bytes-work.ensures in
     let n = sum_bytes_are _ _ _ _ eb c.lesser-links.ensures refl in
     let a = c.args in

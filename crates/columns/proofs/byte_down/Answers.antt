@@ -23,14 +23,13 @@ loop-v-init c =
 )
 
 pub overflow_add-lo : goal.overflow_add-lo
-overflow_add-lo c = omega (arith, room (goal.at.overflow_add-lo c).In-loop-v)
+overflow_add-lo c = omega (arith, room c)
 
 pub overflow_mul-lo : goal.overflow_mul-lo
-overflow_mul-lo c = omega (arith, room (goal.at.overflow_mul-lo c).In-loop-v)
+overflow_mul-lo c = omega (arith, room c)
 
 pub overflow_add-lo-in-loop-v : goal.overflow_add-lo-in-loop-v
-overflow_add-lo-in-loop-v c =
-    omega (arith, room (goal.at.overflow_add-lo-in-loop-v c).In-loop-v, c.requires.1)
+overflow_add-lo-in-loop-v c = omega (arith, room c, c.requires.1)
 
 pub bounds-s-lo : goal.bounds-s-lo
 bounds-s-lo c = omega (arith, room (goal.at.bounds-s-lo c).In-loop-v, c.requires.1)

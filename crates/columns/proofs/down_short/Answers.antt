@@ -27,14 +27,13 @@ loop-v-init c =
 )
 
 pub overflow_add-lo : goal.overflow_add-lo
-overflow_add-lo c = omega (arith, room (goal.at.overflow_add-lo c).In-loop-v)
+overflow_add-lo c = omega (arith, room c)
 
 pub overflow_mul-lo : goal.overflow_mul-lo
-overflow_mul-lo c = omega (arith, room (goal.at.overflow_mul-lo c).In-loop-v)
+overflow_mul-lo c = omega (arith, room c)
 
 pub join_block-next-requires : goal.join_block-next-requires
-join_block-next-requires c =
-    omega (arith, room (goal.at.join_block-next-requires c).In-loop-v)
+join_block-next-requires c = omega (arith, room c)
 
 pub loop-v-preserved : goal.loop-v-preserved
 loop-v-preserved c =

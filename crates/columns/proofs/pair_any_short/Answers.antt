@@ -23,8 +23,7 @@ rows_end-requires c =
     (omega arith) in (omega (arith, few), (omega (arith, few), omega (arith, few)))
 
 pub overflow_mul-rows_end : goal.overflow_mul-rows_end
-overflow_mul-rows_end c =
-    omega (arith, below (goal.at.overflow_mul-rows_end c).After-rows_end)
+overflow_mul-rows_end c = omega (arith, below c)
 
 pub pair_short-requires : goal.pair_short-requires
 pair_short-requires c =

@@ -27,7 +27,7 @@ returns c =
     let a = c.args in
     c.clear_rows.ensures
     ∙ copied AsIs a.t.now (λ i. omega
-    (arith, (goal.at.returns c).After-slice_known-1.slice_known-1.given i))
+    (arith, c.slice_known-1.given i))
     a.w a.depth _ _ _ a.h a.t.now refl
     c.row_bytes-n.ensures
     c.spare_bits-u.ensures

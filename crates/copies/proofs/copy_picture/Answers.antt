@@ -10,7 +10,6 @@ use Rattle.copies.proofs.copy_picture.Goals as goal
 pub copy_rows-requires : goal.copy_rows-requires
 copy_rows-requires c =
     let a = c.args in
-    let p = (c.requires.holds, c.requires.holds_2) in
     let e = ap (λ n. a.h * n) c.row_bytes-n.ensures in (
       omega (arith, c.spare_bits-u.ensures, spare_few a.depth a.w),
       (omega (arith, e, c.requires.holds_2.long), omega (arith, e, c.requires.holds.long)),

@@ -9,7 +9,6 @@ use Rattle.decimals.proofs.put_decimal.Goals as goal
 
 pub returns : goal.returns
 returns c =
-    let e = (c.put_bytes.ensures.value, c.put_bytes.ensures.t_after) in
     let a = c.args in
     let l = last_digits a.n _ _ _ _ _
     c.decimal_len-zeros.ensures.0

@@ -22,7 +22,7 @@ head_known c v e = (
 
 known : (c : After-cells_end) → let d = c.args.d.now in
     (4 ≤ length d) × (head_made (wide_of d) (high_of d) (origin_column_of d) (origin_row_of d) ≡ true)
-known c = head_known c.before.before.before.before.before.before true c.if-head_made.true
+known c = head_known (goal.at.After-cells_end c).After-head_made true c.if-head_made.true
 
 wide_known : (c : After-cells_end)
     → c.size-w.result ≡ wide_of c.args.d.now
@@ -40,7 +40,7 @@ end_known c = c.cells_end.ensures ∙ ap₂ cells_end (wide_known c) (high_known
 rows_known : (c : Else-d-cells_end) → let d = c.args.d.now in
     cells_end (wide_of d) (high_of d) ≤ length d
 rows_known c = let d = c.args.d.now in
-    subst (λ n. n ≤ length d) (end_known c.before) c.if-d-cells_end.false
+    subst (λ n. n ≤ length d) (end_known (goal.at.Else-d-cells_end c).After-cells_end) c.if-d-cells_end.false
 
 pub returns-then-d-lt4 : goal.returns-then-d-lt4
 returns-then-d-lt4 c = cells_short c.args.d.now c.if-d-lt4.true

@@ -41,7 +41,7 @@ heights_part c = ap (λ n. drop n c.args.d.now) (c.cells_end-end.ensures ∙ ap�
 -- nothing stands after the heights
 exact : (c : Then-d-end) → let d = c.args.d.now in
     length d ≡ cells_end (wide_of d) (high_of d) + picture_bytes EightBit (wide_of d) (high_of d)
-exact c = c.if-d-end.true ∙ whole c.before
+exact c = c.if-d-end.true ∙ whole (goal.at.Then-d-end c).After-cells_end-end
 
 pub bounds-d-0 : goal.bounds-d-0
 bounds-d-0 c =
@@ -52,12 +52,12 @@ bounds-d-1 c =
     let t = cells_tell _ (made (goal.at.bounds-d-1 c).Then-cells_made) in omega arith
 
 pub overflow_mul-h : goal.overflow_mul-h
-overflow_mul-h c = omega (arith, few (goal.at.overflow_mul-h c).After-cells_end-end)
+overflow_mul-h c = omega (arith, few c)
 
 pub overflow_add-end : goal.overflow_add-end
 overflow_add-end c =
     let n = rows_few _ _ c.size-w.ensures.1 c.size-h.ensures.1 in
-    omega (arith, few (goal.at.overflow_add-end c).After-cells_end-end, c.cells_end-end.ensures, n)
+    omega (arith, few c, c.cells_end-end.ensures, n)
 
 pub heights_made-requires : goal.heights_made-requires
 heights_made-requires c =

@@ -12,7 +12,7 @@ returns-in-White c =
     let a = c.args in
     let B = shape_by a.o a.words.now in
     let q = c.in-White.is in
-    let m = (c.bits_twice.ensures.bytes, c.bits_twice.ensures.middle) in (
+    (
       made_found a.which White q OneBit a.w a.h B _ a.target.now _
           (less_read OneBit a.w a.h _ _ _ a.source.now _ a.target.now _ _
           (itself OneBit a.w a.h a.source.now)
@@ -26,7 +26,7 @@ returns-in-Black c =
     let a = c.args in
     let B = shape_by a.o a.words.now in
     let q = c.in-Black.is in
-    let m = (c.bits_twice-in-Black.ensures.bytes, c.bits_twice-in-Black.ensures.middle) in (
+    (
       made_found a.which Black q OneBit a.w a.h B _ a.target.now _
           (less_read OneBit a.w a.h _ _ _ _ a.source.now a.target.now _ _
           (twice_read OneBit a.w a.h B a.source.now true _ a.target.now c.bits_twice-in-Black.ensures.bytes)

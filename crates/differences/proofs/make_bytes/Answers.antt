@@ -12,7 +12,7 @@ returns-in-White c =
     let a = c.args in
     let B = shape_by a.o a.words.now in
     let q = c.in-White.is in
-    let m = (c.bytes_twice.ensures.bytes, c.bytes_twice.ensures.middle) in (
+    (
       made_found a.which White q EightBit a.w a.h B _ a.target.now _
           (less_read EightBit a.w a.h _ _ _ a.source.now _ a.target.now _ _
           (itself EightBit a.w a.h a.source.now)
@@ -26,7 +26,7 @@ returns-in-Black c =
     let a = c.args in
     let B = shape_by a.o a.words.now in
     let q = c.in-Black.is in
-    let m = (c.bytes_twice-in-Black.ensures.bytes, c.bytes_twice-in-Black.ensures.middle) in (
+    (
       made_found a.which Black q EightBit a.w a.h B _ a.target.now _
           (less_read EightBit a.w a.h _ _ _ _ a.source.now a.target.now _ _
           (twice_read EightBit a.w a.h B a.source.now true _ a.target.now c.bytes_twice-in-Black.ensures.bytes)

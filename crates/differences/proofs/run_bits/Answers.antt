@@ -35,7 +35,7 @@ found c = parts_read c.args.element.now _ _
     c.outline_at-o.ensures c.rows_at-words.ensures
 
 pub outline_at-o-requires : goal.outline_at-o-requires
-outline_at-o-requires c = (judged (goal.at.outline_at-o-requires c).Then-is_done).cells
+outline_at-o-requires c = (judged c).cells
 
 pub rows_at-words-requires : goal.rows_at-words-requires
 rows_at-words-requires c = (judged (goal.at.rows_at-words-requires c).Then-is_done).cells
@@ -56,7 +56,7 @@ returns-then-is_done c =
     let k = judged (goal.at.returns-then-is_done c).Then-is_done in
     let q = found (goal.at.returns-then-is_done c).After-rows_at-words in
     let A = value_at OneBit a.source.now a.w in
-    let r = (c.make_bits.ensures.bytes, c.make_bits.ensures.middle) in (
+    (
       k.given,
       (
         made_by_lem a.target.now _ _ _ k.given _ k.done

@@ -7,7 +7,6 @@ use Rattle.digits.proofs.put_bytes.Goals as goal
 
 pub returns : goal.returns
 returns c =
-    let e = (c.copy.ensures.value, c.copy.ensures.bytes) in
     record {
       value = ap (λ n. c.args.at + n) c.copy.ensures.value;
       t_after = put_part _ c.args.s.now c.args.t.now _ c.requires c.copy.ensures.bytes;

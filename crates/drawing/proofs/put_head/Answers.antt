@@ -4,7 +4,7 @@ use Rattle.text.proofs.Texts.{head_is}
 use Rattle.text.specs.Text.{head_line}
 use Rattle.digits.specs.Decimal.{decimal}
 use Rattle.digits.proofs.Pieces.{Left, none_put, piece_put, piece_fits, all_put}
-use mathlib.Core.List.{List, ◌∷◌, ◌++◌}
+use mathlib.Core.List.{List, [], ◌∷◌, ◌++◌}
 use mathlib.Core.Path.{◌∙◌}
 use Prim.Native.Nat.{ℕ}
 use native.Mathlib.Nat.{zero-add}
@@ -29,16 +29,16 @@ all_left : (c : Start) → let a = c.args in
     LeftOf c (((69 ∷ 67 ∷ 72 ∷ 32 ∷ []) ++ decimal a.w) ∷ bins_on a.h a.kind) 0 a.t.now
 all_left c = none_put (omega (arith, c.requires)) (head_is _ _ _)
 
-bins_left : (c : After-put_labelled-a) → LeftOf c.before.before.before.before.before (bins_on c.args.h c.args.kind) c.put_labelled-a.result c.put_labelled-a.new.t
-bins_left c = piece_put (all_left c.before.before.before.before.before) (c.put_labelled-a.ensures.value, c.put_labelled-a.ensures.t_after)
+bins_left : (c : After-put_labelled-a) → LeftOf c.before.before.before.before.before.before (bins_on c.args.h c.args.kind) c.put_labelled-a.result c.put_labelled-a.new.t
+bins_left c = piece_put (all_left c.before.before.before.before.before.before) (c.put_labelled-a.ensures.value, c.put_labelled-a.ensures.t_after)
 
-kind_left : (c : After-put_labelled-b) → LeftOf c.before.before.before.before.before.before.before.before.before.before (kind_on c.args.kind) c.put_labelled-b.result c.put_labelled-b.new.t
-kind_left c = piece_put (bins_left c.before.before.before.before.before) (c.put_labelled-b.ensures.value, c.put_labelled-b.ensures.t_after)
+kind_left : (c : After-put_labelled-b) → LeftOf (goal.at.After-put_labelled-b c).After-slice_known-1 (kind_on c.args.kind) c.put_labelled-b.result c.put_labelled-b.new.t
+kind_left c = piece_put (bins_left (goal.at.After-put_labelled-b c).After-t-1) (c.put_labelled-b.ensures.value, c.put_labelled-b.ensures.t_after)
 
 feed_left : (c : After-put_labelled-c) →
-    LeftOf c.before.before.before.before.before.before.before.before.before.before.before.before.before.before.before
+    LeftOf (goal.at.After-put_labelled-c c).After-put_labelled-arg-1
     feed c.put_labelled-c.result c.put_labelled-c.new.t
-feed_left c = piece_put (kind_left c.before.before.before.before.before) (c.put_labelled-c.ensures.value, c.put_labelled-c.ensures.t_after)
+feed_left c = piece_put (kind_left (goal.at.After-put_labelled-c c).After-t-2-1) (c.put_labelled-c.ensures.value, c.put_labelled-c.ensures.t_after)
 
 pub put_labelled-a-requires : goal.put_labelled-a-requires
 put_labelled-a-requires c =

@@ -3,7 +3,7 @@
 use Rattle.text.proofs.Texts.{mark_item, first_item, next_item, fits_as, put_as}
 use Rattle.text.specs.Text.{item_of}
 use Rattle.digits.specs.Decimal.{decimal}
-use mathlib.Core.List.{List, ◌∷◌, ◌++◌}
+use mathlib.Core.List.{List, [], ◌∷◌, ◌++◌}
 use mathlib.Core.Path.{◌≡◌}
 use Prim.Native.Nat.{ℕ}
 use native.Mathlib.Omega.{arith}
@@ -14,35 +14,32 @@ abbrev item : Start → List ℕ
 item c = item_of c.args.depth c.args.v c.args.x.0
 
 -- the piece of each arm
-marked : (c : After-mark_of) → c.mark_of.result ∷ [] ≡ item c.before.before.before.before.before
+marked : (c : After-mark_of) → c.mark_of.result ∷ [] ≡ item c.before.before.before.before.before.before
 marked c = mark_item _ _ _ _ c.in-OneBit.is c.mark_of.ensures
 
 first : (c : After-size)
-    → decimal c.size.result ≡ item c.before.before.before.before.before.before.before
+    → decimal c.size.result ≡ item c.before.before.before.before.before.before.before.before
 first c = first_item _ _ _ _ c.in-EightBit.is
     c.size.ensures c.if-x-eq0.true
 
 next : (c : After-size-in-EightBit)
     → (32 ∷ []) ++ decimal c.size-in-EightBit.result
-    ≡ item c.before.before.before.before.before.before.before.before
+    ≡ item (goal.at.After-size-in-EightBit c).After-slice_known-1
 next c = next_item _ _ _ _ c.in-EightBit.is
     c.size-in-EightBit.ensures c.if-x-eq0.false
 
 pub put_byte-requires : goal.put_byte-requires
-put_byte-requires c =
-    omega (arith, fits_as _ (marked (goal.at.put_byte-requires c).After-mark_of) c.requires)
+put_byte-requires c = omega (arith, fits_as _ (marked c) c.requires)
 
 pub put_decimal-requires : goal.put_decimal-requires
-put_decimal-requires c =
-    fits_as _ (first (goal.at.put_decimal-requires c).After-size) c.requires
+put_decimal-requires c = fits_as _ (first c) c.requires
 
 pub returns-then-x-eq0 : goal.returns-then-x-eq0
 returns-then-x-eq0 c =
     put_as _ (first (goal.at.returns-then-x-eq0 c).After-size) _ (c.put_decimal.ensures.value, c.put_decimal.ensures.t_after)
 
 pub put_labelled-requires : goal.put_labelled-requires
-put_labelled-requires c =
-    fits_as _ (next (goal.at.put_labelled-requires c).After-size-in-EightBit) c.requires
+put_labelled-requires c = fits_as _ (next c) c.requires
 
 pub returns-in-OneBit : goal.returns-in-OneBit
 returns-in-OneBit c =

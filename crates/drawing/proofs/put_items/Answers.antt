@@ -36,7 +36,7 @@ overflow_cast-x c =
 
 pub put_item-next-requires : goal.put_item-next-requires
 put_item-next-requires c =
-    fits_as _ (item (goal.at.put_item-next-requires c).After-value)
+    fits_as _ (item c)
     (next_fits c.loop-x.invariant c.loop-x-test.true)
 
 pub loop-x-preserved : goal.loop-x-preserved

@@ -6,7 +6,7 @@ use Rattle.digits.proofs.Pieces.{Left, none_put, piece_put, piece_fits, all_put}
 use Rattle.picture.specs.Points.{value_at}
 use Rattle.basics.specs.Lists.{joined}
 use Prim.Native.Nat.{ℕ}
-use mathlib.Core.List.{List, ◌∷◌}
+use mathlib.Core.List.{List, [], ◌∷◌}
 use native.Mathlib.Omega.{arith}
 use Rattle.drawing.proofs.put_line.Goals as goal
 use Rattle.drawing.proofs.put_line.Goals.{After-put_items-next, Start}
@@ -22,13 +22,13 @@ all_left : (c : Start) → let a = c.args in
 all_left c = none_put c.requires.y_in_bounds (line_is _ _ _ _)
 
 feed_left : (c : After-put_items-next) →
-    LeftOf c.before.before.before.before ((10 ∷ []) ∷ [])
+    LeftOf c.before.before.before.before.before ((10 ∷ []) ∷ [])
     c.put_items-next.result c.put_items-next.new.t
-feed_left c = piece_put (all_left c.before.before.before.before) (c.put_items-next.ensures.value, c.put_items-next.ensures.t_after)
+feed_left c = piece_put (all_left c.before.before.before.before.before) (c.put_items-next.ensures.value, c.put_items-next.ensures.t_after)
 
 pub put_items-next-requires : goal.put_items-next-requires
 put_items-next-requires c =
-    (c.requires.w_le_most_pings, piece_fits (all_left (goal.at.put_items-next-requires c).Start))
+    (c.requires.w_le_most_pings, piece_fits (all_left c.before.before.before.before))
 
 pub put_byte-requires : goal.put_byte-requires
 put_byte-requires c =

@@ -5,7 +5,7 @@ use Rattle.text.proofs.Texts.{text_is, at_start}
 use Rattle.digits.proofs.Pieces.{Left, none_put, piece_put, piece_fits, all_put}
 use Rattle.picture.specs.Points.{value_at}
 use Prim.Native.Nat.{ℕ}
-use mathlib.Core.List.{List, ◌∷◌}
+use mathlib.Core.List.{List, [], ◌∷◌}
 use mathlib.Core.Path.{sym, ◌∙◌}
 use native.Mathlib.Nat.{zero-add}
 use native.Mathlib.Omega.{arith}
@@ -25,14 +25,12 @@ all_left : (c : Start) → let a = c.args in
 all_left c = none_put (omega (arith, c.requires.kind_in_bounds)) (text_is _ _ _ _ _)
 
 rows_left : (c : After-put_head-at)
-    → LeftOf c.before.before.before.before
-    (rows c.before.before.before.before ∷ []) c.put_head-at.result c.put_head-at.new.t
-rows_left c = let e = (c.put_head-at.ensures.value, c.put_head-at.ensures.t_after) in
-    piece_put (all_left c.before.before.before.before) (c.put_head-at.ensures.value ∙ sym (zero-add _), c.put_head-at.ensures.t_after)
+    → LeftOf c.before.before.before.before.before
+    (rows c.before.before.before.before.before ∷ []) c.put_head-at.result c.put_head-at.new.t
+rows_left c = piece_put (all_left c.before.before.before.before.before) (c.put_head-at.ensures.value ∙ sym (zero-add _), c.put_head-at.ensures.t_after)
 
 pub put_head-at-requires : goal.put_head-at-requires
-put_head-at-requires c =
-    omega (arith, piece_fits (all_left (goal.at.put_head-at-requires c).Start))
+put_head-at-requires c = omega (arith, piece_fits (all_left c.before.before.before.before))
 
 pub put_lines-requires : goal.put_lines-requires
 put_lines-requires c =

@@ -36,21 +36,25 @@ copy_picture-requires c =
     let a = c.args in
     let g = c.judge_ech-head.ensures in
     let d = c.depth_of-depth.ensures in record {
-      holds = source_held a.file.now a.target.now _ _ g (done (goal.at.copy_picture-requires c).Then-is_done) _ _ d (tail_is a.file.now 10);
-      holds_2 = target_held a.file.now a.target.now _ _ g (done (goal.at.copy_picture-requires c).Then-is_done) _ d;
+      holds = source_held a.file.now a.target.now _ _ g
+          (done (goal.at.copy_picture-requires c).Then-is_done) _ _ d (tail_is a.file.now 10);
+      holds_2 = target_held a.file.now a.target.now _ _ g
+          (done (goal.at.copy_picture-requires c).Then-is_done) _ d;
     }
 
 pub returns-then-is_done : goal.returns-then-is_done
 returns-then-is_done c =
     let a = c.args in
-    let g = c.judge_ech-head.ensures in (
-      g,
-      read_done a.file.now a.target.now _ _ g (done (goal.at.returns-then-is_done c).Then-is_done) refl _ _ _ _
+    let g = c.judge_ech-head.ensures in
+    record {
+      given_back = g;
+      target_after = read_done a.file.now a.target.now _ _ g (done (goal.at.returns-then-is_done c).Then-is_done)
+          refl _ _ _ _
           c.depth_of-depth.ensures
           (c.face_of-face.ensures
           ∙ ap face_of c.size-own.ensures.0)
-          (tail_is a.file.now 10) c.copy_picture.ensures,
-    )
+          (tail_is a.file.now 10) c.copy_picture.ensures;
+    }
 
 pub returns : goal.returns
 returns c =

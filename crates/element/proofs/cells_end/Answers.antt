@@ -13,10 +13,10 @@ short c = let a = c.args in
     subst (λ n. a.h * n ≤ 8160) (sym c.row_bytes.ensures) (rows_few a.w a.h p.0 p.1)
 
 pub overflow_mul-result : goal.overflow_mul-result
-overflow_mul-result c = omega (arith, short (goal.at.overflow_mul-result c).After-row_bytes)
+overflow_mul-result c = omega (arith, short c)
 
 pub overflow_add-result : goal.overflow_add-result
-overflow_add-result c = omega (arith, short (goal.at.overflow_add-result c).After-row_bytes)
+overflow_add-result c = omega (arith, short c)
 
 pub returns : goal.returns
 returns c = ap (λ n. 4 + c.args.h * n) c.row_bytes.ensures

@@ -22,17 +22,17 @@ told_here : (c : After-at_fault) → let a = c.args in
     fault_test (shape_by a.outline a.cells.now) (shapes_of (take a.k a.links))
     (place_no c.loop-n.n)
     ≡ c.at_fault.result
-told_here c = fault_told (element c.before.before.before.before.before.before.before.before) c.args.links c.args.k c.requires.chained c.requires.k_le_most_links c.all_sums-sums.result
+told_here c = fault_told (element c.before.before.before.before.before.before.before.before.before) c.args.links c.args.k c.requires.chained c.requires.k_le_most_links c.all_sums-sums.result
     c.all_sums-sums.ensures c.loop-n.n c.offset_no-at.result _ c.offset_no-at.ensures.0
     c.at_fault.ensures
 
 pub all_sums-sums-requires : goal.all_sums-sums-requires
 all_sums-sums-requires c =
-    linked (element (goal.at.all_sums-sums-requires c).Start) _ _ c.requires.chained c.requires.k_le_most_links
+    linked (element c) _ _ c.requires.chained c.requires.k_le_most_links
 
 pub loop-n-init : goal.loop-n-init
 loop-n-init c =
-    (search rules, seek_start (element (goal.at.loop-n-init c).Start) c.args.links c.args.k c.requires.chained c.requires.k_le_most_links)
+    (search rules, seek_start (element c.before.before.before) c.args.links c.args.k c.requires.chained c.requires.k_le_most_links)
 
 pub at_fault-requires : goal.at_fault-requires
 at_fault-requires c =
@@ -49,7 +49,7 @@ overflow_cast-result c = let o = c.offset_no-at.ensures.1 in omega arith
 pub returns-then-at_fault : goal.returns-then-at_fault
 returns-then-at_fault c =
     let l = c.loop-n in
-    found_told (element (goal.at.returns-then-at_fault c).Start) c.args.links c.args.k
+    found_told (element c.before.before.before.before.before.before.before.before.before.before.before.before) c.args.links c.args.k
     c.requires.chained c.requires.k_le_most_links l.n c.offset_no-at.result
     c.offset_no-at.ensures.0
     (seek_found _ l.n all_offsets _ c.loop-n-test.true l.invariant.1
@@ -65,5 +65,5 @@ loop-n-preserved c =
 pub returns : goal.returns
 returns c =
     let l = c.loop-n in
-    none_told (element (goal.at.returns c).Start) c.args.links c.args.k c.requires.chained c.requires.k_le_most_links
+    none_told (element c.before.before.before.before.before) c.args.links c.args.k c.requires.chained c.requires.k_le_most_links
     (seek_none _ l.n all_offsets _ c.loop-n-test.false l.invariant.1)

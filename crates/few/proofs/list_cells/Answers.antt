@@ -27,15 +27,14 @@ shape_of-at-then-n-gt-FEW c =
 pub returns-then-n-gt-FEW : goal.returns-then-n-gt-FEW
 returns-then-n-gt-FEW c =
     let a = c.args in
-    let r = (c.list_row-n.ensures.list, c.list_row-n.ensures.number) in (
+    (
       too_many a.grows a.w a.o a.words.now a.o.h _ _ (omega arith)
           (rowed_long a.grows a.w a.o a.words.now _ _ _ c.list_row-n.ensures.list),
       count_past a.words.now a.o.w (c.loop-r.r + 1) a.o.h _ (omega arith) (omega arith) c.list_row-n.ensures.number,
     )
 
 pub loop-r-preserved : goal.loop-r-preserved
-loop-r-preserved c =
-    let r = (c.list_row-n.ensures.list, c.list_row-n.ensures.number) in (omega arith, (c.list_row-n.ensures.list, c.list_row-n.ensures.number))
+loop-r-preserved c = (omega arith, (c.list_row-n.ensures.list, c.list_row-n.ensures.number))
 
 pub shape_of-at : goal.shape_of-at
 shape_of-at c =

@@ -91,7 +91,7 @@ loop-m-preserved c =
     let f = c.first_cell-c.ensures in
     let e = sym c.cell_bit-m.ensures in
     let is = word_masked (get_or a.words.now a.r 0) a.o.w _ c.run_word.ensures in
-    let p = (c.push-count.ensures.number, c.push-count.ensures.list) in (
+    (
       subst (λ b. (d : ℕ) → d < 64 → cell_on64 (l.m - b) d ≡ true
           → cell_on64 (bit_and (get_or a.words.now a.r 0) c.run_word.result) d ≡ true) e
           (sub_more a.grows a.w a.o a.words.now c.requires.sized.few_wide a.r _ is c.requires.r_lt_h

@@ -5,7 +5,6 @@ use mathlib.Core.Path.{◌≡◌, sym, ◌∙◌}
 use mathlib.Core.Bool.{true}
 use lib.ListN.{length}
 use lib.Seq.{length-take-le}
-use borrow.Author.Tests.{not-true, not-false}
 use Rattle.finder.specs.Finder.{is_there}
 use Rattle.finder.proofs.Finding.{there_bytes, there_long, found_none, in_first_lem, in_second_lem}
 use Rattle.finder.proofs.last_picture.Goals as goal
@@ -13,17 +12,17 @@ use Rattle.finder.proofs.last_picture.Goals.{After-picture_bytes-n, Else-not-is_
 
 there : (c : Else-not-is_there) → let a = c.args in
     is_there (length a.first.now) (length a.second.now) a.depth a.w a.h a.links ≡ true
-there c = sym c.is_there.ensures ∙ not-false c.is_there.result c.if-not-is_there.false
+there c = sym c.is_there.ensures ∙ c.if-not-is_there.false
 
 -- both buffers have the picture's bytes
 long : (c : After-picture_bytes-n) → let a = c.args in
     (c.picture_bytes-n.result ≤ length a.first.now) × (c.picture_bytes-n.result ≤ length a.second.now)
-long c = there_long _ _ _ _ _ _ (there c.before) _ c.picture_bytes-n.ensures
+long c = there_long _ _ _ _ _ _ (there (goal.at.After-picture_bytes-n c).Else-not-is_there) _ c.picture_bytes-n.ensures
 
 pub returns-then-not-is_there : goal.returns-then-not-is_there
 returns-then-not-is_there c =
     found_none _ _ _ _ _ _ _ _
-    (sym c.is_there.ensures ∙ not-true c.is_there.result c.if-not-is_there.true)
+    (sym c.is_there.ensures ∙ c.if-not-is_there.true)
 
 pub slice_bounds-result-end-then-links-eq1 : goal.slice_bounds-result-end-then-links-eq1
 slice_bounds-result-end-then-links-eq1 c =

@@ -32,7 +32,7 @@ found c = parts_read c.args.element.now _ _
     c.outline_at-o.ensures c.rows_at-words.ensures
 
 pub outline_at-o-requires : goal.outline_at-o-requires
-outline_at-o-requires c = (judged (goal.at.outline_at-o-requires c).Then-is_done).cells
+outline_at-o-requires c = (judged c).cells
 
 pub rows_at-words-requires : goal.rows_at-words-requires
 rows_at-words-requires c = (judged (goal.at.rows_at-words-requires c).Then-is_done).cells

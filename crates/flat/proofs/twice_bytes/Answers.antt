@@ -36,7 +36,7 @@ found c = parts_read c.args.element.now _ _
     c.outline_at-o.ensures c.rows_at-words.ensures
 
 pub outline_at-o-requires : goal.outline_at-o-requires
-outline_at-o-requires c = (judged (goal.at.outline_at-o-requires c).Then-is_done).cells
+outline_at-o-requires c = (judged c).cells
 
 pub rows_at-words-requires : goal.rows_at-words-requires
 rows_at-words-requires c = (judged (goal.at.rows_at-words-requires c).Then-is_done).cells
@@ -57,7 +57,7 @@ returns-then-is_done c =
     let k = judged (goal.at.returns-then-is_done c).Then-is_done in
     let q = found (goal.at.returns-then-is_done c).After-rows_at-words in
     let g = c.is_growing-grows.ensures in
-    let r = (c.bytes_twice.ensures.bytes, c.bytes_twice.ensures.middle) in (
+    (
       k.given,
       (
         twice_left k _ q (λ i. let l = c.type_inv.element i in omega arith)

@@ -10,9 +10,9 @@ use Rattle.freeblocks.proofs.join_cell.Given as goal
 
 abbrev pub invariant-loop-i : goal.invariant-loop-i
 invariant-loop-i l =
-    (ii ≤ 128) × (length l.c ≡ 128) × (length l.initial.c ≡ 128)
-    × (l.c ≡ laid 0 ii
-    (λ ii. join_by l.grows (get_or l.initial.c ii 0) (plain_by l.up l.g (get_or l.b (l.at + ii) 0))) l.initial.c)
+    (l.i ≤ 128) × (length l.c ≡ 128) × (length l.initial.c ≡ 128)
+    × (l.c ≡ laid 0 l.i
+    (λ i. join_by l.grows (get_or l.initial.c i 0) (plain_by l.up l.g (get_or l.b (l.at + i) 0))) l.initial.c)
 
 abbrev pub decreases-loop-i : goal.decreases-loop-i
 decreases-loop-i l = 128 - l.i

@@ -14,16 +14,13 @@ pub loop-j-init : goal.loop-j-init
 loop-j-init c = (search rules, search rules, cells_none _ _ _ _ _ _ (search rules))
 
 pub overflow_cast-k : goal.overflow_cast-k
-overflow_cast-k c =
-    omega (arith, near (goal.at.overflow_cast-k c).After-shared_slice_known-in-loop-j-1)
+overflow_cast-k c = omega (arith, near c)
 
 pub overflow_add-i : goal.overflow_add-i
-overflow_add-i c =
-    omega (arith, near (goal.at.overflow_add-i c).After-shared_slice_known-in-loop-j-1)
+overflow_add-i c = omega (arith, near c)
 
 pub join_cell-next-requires : goal.join_cell-next-requires
-join_cell-next-requires c =
-    omega (arith, near (goal.at.join_cell-next-requires c).After-shared_slice_known-in-loop-j-1)
+join_cell-next-requires c = omega (arith, near c)
 
 pub loop-j-preserved : goal.loop-j-preserved
 loop-j-preserved c =

@@ -9,12 +9,10 @@ loop-k-init c = (search rules, search rules, free_none _ _ _ _ _)
 
 pub join_cells-x-requires : goal.join_cells-x-requires
 join_cells-x-requires c =
-    let p = (c.requires.n_in_bounds, (c.requires.b_len, (c.requires.sure, c.requires.under))) in
     (omega (arith, c.requires.n_in_bounds.1, c.requires.b_len.0), c.requires.b_len.1.0)
 
 pub join_cells-d-requires : goal.join_cells-d-requires
 join_cells-d-requires c =
-    let p = (c.requires.n_in_bounds, (c.requires.b_len, (c.requires.sure, c.requires.under))) in
     (omega (arith, c.requires.n_in_bounds.1, c.requires.b_len.0), c.requires.b_len.1.1)
 
 pub shape_of-t-then-shows : goal.shape_of-t-then-shows

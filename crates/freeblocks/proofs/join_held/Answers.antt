@@ -11,7 +11,6 @@ loop-k-init c = (search rules, search rules, search rules, held_none _ _ _ _ _ _
 
 pub join_both-d-requires : goal.join_both-d-requires
 join_both-d-requires c =
-    let p = (c.requires.from_le_n, c.requires.b_len) in
     (omega (arith, c.requires.b_len.0, c.requires.from_le_n), c.requires.b_len.1)
 
 pub loop-k-preserved : goal.loop-k-preserved

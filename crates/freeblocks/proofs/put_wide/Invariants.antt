@@ -8,7 +8,7 @@ use Rattle.freeblocks.proofs.put_wide.Given as goal
 
 abbrev pub invariant-loop-i : goal.invariant-loop-i
 invariant-loop-i l =
-    (ii ≤ 128) × (length l.t ≡ length l.initial.t) × (l.t ≡ laid l.at ii (λ ii. get_or l.c ii 0) l.initial.t)
+    (l.i ≤ 128) × (length l.t ≡ length l.initial.t) × (l.t ≡ laid l.at l.i (λ i. get_or l.c i 0) l.initial.t)
 
 abbrev pub decreases-loop-i : goal.decreases-loop-i
 decreases-loop-i l = 128 - l.i

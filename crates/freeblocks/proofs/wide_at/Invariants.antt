@@ -9,7 +9,7 @@ use Rattle.freeblocks.proofs.wide_at.Given as goal
 
 abbrev pub invariant-loop-i : goal.invariant-loop-i
 invariant-loop-i l =
-    (ii ≤ 128) × (l.c ≡ firsts (λ ii. get_or l.s (l.at + ii) 0) ii ++ replicate (128 - ii) 0)
+    (l.i ≤ 128) × (l.c ≡ firsts (λ i. get_or l.s (l.at + i) 0) l.i ++ replicate (128 - l.i) 0)
 
 abbrev pub decreases-loop-i : goal.decreases-loop-i
 decreases-loop-i l = 128 - l.i

@@ -7,7 +7,7 @@ use Rattle.gathers.proofs.lay.Goals as goal
 
 pub lay_blocks-requires : goal.lay_blocks-requires
 lay_blocks-requires c =
-    let p = (c.requires.at_nonzero, c.requires.reached) in record {
+    record {
       at_nonzero = (
     c.requires.at_nonzero.0,
     omega (
@@ -20,7 +20,7 @@ lay_blocks-requires c =
 
 pub block-c-requires : goal.block-c-requires
 block-c-requires c =
-    let p = (c.requires.at_nonzero, c.requires.reached) in (
+    (
   c.requires.at_nonzero.0,
   λ j h. omega (arith, c.requires.reached j h, c.requires.at_nonzero.1.0),
 )
@@ -28,7 +28,6 @@ block-c-requires c =
 pub returns : goal.returns
 returns c =
     let a = c.args in
-    let p = (c.requires.at_nonzero, c.requires.reached) in
     last_over (at_all a.grows a.s.now a.at.now) a.from a.t.now _ _ c.put_block.new.t
     a.n c.requires.at_nonzero.1.0 c.requires.at_nonzero.1.1 c.lay_blocks.ensures c.block-c.ensures
     c.put_block.ensures

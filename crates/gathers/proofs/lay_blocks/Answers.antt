@@ -13,7 +13,7 @@ loop-k-init c = (search rules, (search rules, laid_none _ _ _))
 
 pub block-c-requires : goal.block-c-requires
 block-c-requires c =
-    let p = (c.requires.at_nonzero, c.requires.reached) in (
+    (
   c.requires.at_nonzero.0,
   λ j h. omega
       (arith, c.requires.reached j h),

@@ -15,7 +15,7 @@ abbrev test : In-loop-y → ℕ → Bool
 test c = let a = c.args in heights_made_in a.cells.now a.heights.now a.w
 
 row : (c : After-row_heights_made) (v : Bool) → c.row_heights_made.result ≡ v
-    → test c.before c.loop-y.y ≡ v
+    → test (goal.at.After-row_heights_made c).In-loop-y c.loop-y.y ≡ v
 row c v e = sym c.row_heights_made.ensures ∙ e
 
 pub loop-y-init : goal.loop-y-init
@@ -26,7 +26,6 @@ overflow_cast-y c = let p = c.requires.holds in omega arith
 
 pub row_heights_made-requires : goal.row_heights_made-requires
 row_heights_made-requires c =
-    let p = (c.requires.holds, c.requires.holds_2) in
     let w = c.args.w in
     let l = c.loop-y-test.true in
     record {

@@ -13,7 +13,7 @@ abbrev test : In-loop-c → ℕ → Bool
 test c = let a = c.args in height_made_at a.cells.now a.heights.now a.w a.row.0
 
 column : (c : After-height_made)
-    → c.height_made.result ≡ test c.before.before.before c.loop-c.c
+    → c.height_made.result ≡ test (goal.at.After-height_made c).In-loop-c c.loop-c.c
 unfolding height_made_at
 column c = c.height_made.ensures
     ∙ ap₂ (λ n g. height_made (eqb n 1) g) c.value-set.ensures c.value-g.ensures

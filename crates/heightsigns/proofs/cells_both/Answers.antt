@@ -25,12 +25,12 @@ one_at_most false = omega arith
 up : (c : After-entry-k) → c.loop-c.n
     < c.args.wide
 up c = let l = c.loop-c in
-    omega (arith, few c.before.before.before.before.before.before.before.before.before true l.n l.c l.invariant.0 l.invariant.2.0)
+    omega (arith, few c.before.before.before.before.before.before.before.before.before.before true l.n l.c l.invariant.0 l.invariant.2.0)
 
 down : (c : After-entry-k) → c.loop-c.m
     < c.args.wide
 down c = let l = c.loop-c in
-    omega (arith, few c.before.before.before.before.before.before.before.before.before false l.m l.c l.invariant.0 l.invariant.2.1)
+    omega (arith, few c.before.before.before.before.before.before.before.before.before.before false l.m l.c l.invariant.0 l.invariant.2.1)
 
 rooms : (c : After-entry-k)
     → let a = c.args in
@@ -45,20 +45,16 @@ pub entry-k-requires : goal.entry-k-requires
 entry-k-requires c = (c.cell_place.ensures.1, c.size_of.ensures.1)
 
 pub offset_bounds-rising-n : goal.offset_bounds-rising-n
-offset_bounds-rising-n c =
-    omega (arith, up (goal.at.offset_bounds-rising-n c).After-entry-k, (rooms (goal.at.offset_bounds-rising-n c).After-entry-k).0, c.loop-c.invariant.1.0)
+offset_bounds-rising-n c = omega (arith, up c, (rooms c).0, c.loop-c.invariant.1.0)
 
 pub bounds-rising-n : goal.bounds-rising-n
-bounds-rising-n c =
-    omega (arith, up (goal.at.bounds-rising-n c).After-entry-k, (rooms (goal.at.bounds-rising-n c).After-entry-k).0, c.loop-c.invariant.1.0)
+bounds-rising-n c = omega (arith, up c, (rooms c).0, c.loop-c.invariant.1.0)
 
 pub offset_bounds-others-m : goal.offset_bounds-others-m
-offset_bounds-others-m c =
-    omega (arith, down (goal.at.offset_bounds-others-m c).After-entry-k, (rooms (goal.at.offset_bounds-others-m c).After-entry-k).1, c.loop-c.invariant.1.1)
+offset_bounds-others-m c = omega (arith, down c, (rooms c).1, c.loop-c.invariant.1.1)
 
 pub bounds-others-m : goal.bounds-others-m
-bounds-others-m c =
-    omega (arith, down (goal.at.bounds-others-m c).After-entry-k, (rooms (goal.at.bounds-others-m c).After-entry-k).1, c.loop-c.invariant.1.1)
+bounds-others-m c = omega (arith, down c, (rooms c).1, c.loop-c.invariant.1.1)
 
 pub overflow_add-n : goal.overflow_add-n
 overflow_add-n c =

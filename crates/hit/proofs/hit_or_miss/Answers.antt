@@ -34,8 +34,7 @@ source_holds c = let a = c.args in
     holds Free OneBit a.w a.h a.source.now _ k.sized (le_of_eq (sym k.whole))
 
 pub element_at-a-requires : goal.element_at-a-requires
-element_at-a-requires c =
-    made_cells _ (known (goal.at.element_at-a-requires c).Then-is_done).1.0
+element_at-a-requires c = made_cells _ (known c).1.0
 
 pub element_at-b-requires : goal.element_at-b-requires
 element_at-b-requires c =

@@ -17,7 +17,6 @@ slice_bounds-any_row-end c =
 
 pub any_row-requires-2 : goal.any_row-requires-2
 any_row-requires-2 c =
-    let p = (c.requires.ready, (c.requires.ready_2, c.requires.t_len)) in
     record {
       ready = c.requires.ready_2;
       t_len = (front_length _ c.args.w c.requires.ready.few_pings (long (goal.at.any_row-requires-2 c).After-any_row) ∙ long (goal.at.any_row-requires-2 c).After-any_row, c.requires.t_len.1);

@@ -28,13 +28,13 @@ loop-y-init c =
     )
 
 pub overflow_mul-a : goal.overflow_mul-a
-overflow_mul-a c = omega (arith, room (goal.at.overflow_mul-a c).In-loop-y)
+overflow_mul-a c = omega (arith, room c)
 
 pub overflow_add-z : goal.overflow_add-z
-overflow_add-z c = omega (arith, room (goal.at.overflow_add-z c).In-loop-y)
+overflow_add-z c = omega (arith, room c)
 
 pub slice_bounds-hit_row-end : goal.slice_bounds-hit_row-end
-slice_bounds-hit_row-end c = room (goal.at.slice_bounds-hit_row-end c).In-loop-y
+slice_bounds-hit_row-end c = room c
 
 pub hit_row-requires : goal.hit_row-requires
 hit_row-requires c =

@@ -6,7 +6,6 @@ use Rattle.host.proofs.black_tophat.Goals as goal
 
 pub returns : goal.returns
 returns c =
-    let e = (c.black_tophat.ensures.answer, (c.black_tophat.ensures.bytes, c.black_tophat.ensures.middle)) in
     record {
       number = c.pack.ensures ∙ ap packed c.black_tophat.ensures.answer;
       bytes = c.black_tophat.ensures.bytes;

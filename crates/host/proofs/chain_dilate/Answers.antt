@@ -7,7 +7,7 @@ use Rattle.host.proofs.chain_dilate.Goals as goal
 
 pub returns : goal.returns
 returns c =
-    let e = (c.dilate.ensures.answer, (c.dilate.ensures.first, c.dilate.ensures.second)) in record {
+    record {
       number = c.pack.ensures ∙ ap packed c.dilate.ensures.answer;
       first = as_told _ _ _ _ c.dilate.ensures.first c.dilate.ensures.answer;
       second = as_told _ _ _ _ c.dilate.ensures.second c.dilate.ensures.answer;

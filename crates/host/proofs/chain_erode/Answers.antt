@@ -7,7 +7,7 @@ use Rattle.host.proofs.chain_erode.Goals as goal
 
 pub returns : goal.returns
 returns c =
-    let e = (c.erode.ensures.answer, (c.erode.ensures.first, c.erode.ensures.second)) in record {
+    record {
       number = c.pack.ensures ∙ ap packed c.erode.ensures.answer;
       first = as_told _ _ _ _ c.erode.ensures.first c.erode.ensures.answer;
       second = as_told _ _ _ _ c.erode.ensures.second c.erode.ensures.answer;

@@ -6,7 +6,6 @@ use Rattle.host.proofs.dilate.Goals as goal
 
 pub returns : goal.returns
 returns c =
-    let e = (c.dilate.ensures.answer, c.dilate.ensures.bytes) in
     record {
       number = c.pack.ensures ∙ ap packed c.dilate.ensures.answer;
       bytes = c.dilate.ensures.bytes;

@@ -6,7 +6,6 @@ use Rattle.host.proofs.erode.Goals as goal
 
 pub returns : goal.returns
 returns c =
-    let e = (c.erode.ensures.answer, c.erode.ensures.bytes) in
     record {
       number = c.pack.ensures ∙ ap packed c.erode.ensures.answer;
       bytes = c.erode.ensures.bytes;

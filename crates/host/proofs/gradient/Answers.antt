@@ -6,7 +6,6 @@ use Rattle.host.proofs.gradient.Goals as goal
 
 pub returns : goal.returns
 returns c =
-    let e = (c.gradient.ensures.answer, (c.gradient.ensures.bytes, c.gradient.ensures.middle)) in
     record {
       number = c.pack.ensures ∙ ap packed c.gradient.ensures.answer;
       bytes = c.gradient.ensures.bytes;

@@ -6,7 +6,6 @@ use Rattle.host.proofs.qik_hit_or_miss.Goals as goal
 
 pub returns : goal.returns
 returns c =
-    let e = (c.hit_or_miss.ensures.answer, c.hit_or_miss.ensures.bytes) in
     record {
       number = c.pack.ensures ∙ ap packed c.hit_or_miss.ensures.answer;
       bytes = c.hit_or_miss.ensures.bytes;

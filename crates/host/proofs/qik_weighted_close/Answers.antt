@@ -6,7 +6,6 @@ use Rattle.host.proofs.qik_weighted_close.Goals as goal
 
 pub returns : goal.returns
 returns c =
-    let e = (c.close.ensures.answer, (c.close.ensures.bytes, c.close.ensures.middle)) in
     record {
       number = c.pack.ensures ∙ ap packed c.close.ensures.answer;
       bytes = c.close.ensures.bytes;

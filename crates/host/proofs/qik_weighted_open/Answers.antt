@@ -6,7 +6,6 @@ use Rattle.host.proofs.qik_weighted_open.Goals as goal
 
 pub returns : goal.returns
 returns c =
-    let e = c.«open».ensures in
     record {
       number = c.pack.ensures ∙ ap packed c.open.ensures.answer;
       bytes = c.open.ensures.bytes;

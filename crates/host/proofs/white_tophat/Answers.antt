@@ -6,7 +6,6 @@ use Rattle.host.proofs.white_tophat.Goals as goal
 
 pub returns : goal.returns
 returns c =
-    let e = (c.white_tophat.ensures.answer, (c.white_tophat.ensures.bytes, c.white_tophat.ensures.middle)) in
     record {
       number = c.pack.ensures ∙ ap packed c.white_tophat.ensures.answer;
       bytes = c.white_tophat.ensures.bytes;

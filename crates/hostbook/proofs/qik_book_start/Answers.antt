@@ -6,7 +6,6 @@ use Rattle.hostbook.proofs.qik_book_start.Goals as goal
 
 pub returns : goal.returns
 returns c =
-    let e = (c.start.ensures.answer, c.start.ensures.bytes) in
     record {
       number = c.pack.ensures ∙ ap packed c.start.ensures.answer;
       bytes = c.start.ensures.bytes;

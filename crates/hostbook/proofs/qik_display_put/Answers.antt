@@ -6,7 +6,6 @@ use Rattle.hostbook.proofs.qik_display_put.Goals as goal
 
 pub returns : goal.returns
 returns c =
-    let e = (c.put.ensures.answer, c.put.ensures.bytes) in
     record {
       number = c.pack.ensures ∙ ap packed c.put.ensures.answer;
       bytes = c.put.ensures.bytes;

@@ -6,7 +6,6 @@ use Rattle.hostbook.proofs.qik_export_remove.Goals as goal
 
 pub returns : goal.returns
 returns c =
-    let e = (c.remove.ensures.answer, c.remove.ensures.bytes) in
     record {
       number = c.pack.ensures ∙ ap packed c.remove.ensures.answer;
       bytes = c.remove.ensures.bytes;

@@ -6,7 +6,6 @@ use Rattle.hostbook.proofs.qik_export_tidy.Goals as goal
 
 pub returns : goal.returns
 returns c =
-    let e = (c.tidy.ensures.answer, c.tidy.ensures.bytes) in
     record {
       number = c.pack.ensures ∙ ap packed c.tidy.ensures.answer;
       bytes = c.tidy.ensures.bytes;

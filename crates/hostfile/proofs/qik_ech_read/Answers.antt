@@ -9,7 +9,6 @@ pack_read-requires c = read_packable _ _ _ c.read_ech-got.ensures.given_back
 
 pub returns : goal.returns
 returns c =
-    let e = (c.read_ech-got.ensures.given_back, c.read_ech-got.ensures.target_after) in
     record {
       number = c.pack_read.ensures ∙ read_packed _ _ _ _ c.pack.ensures c.read_ech-got.ensures.given_back;
       bytes = c.read_ech-got.ensures.target_after;

@@ -6,7 +6,6 @@ use Rattle.hostfile.proofs.qik_pbm_write.Goals as goal
 
 pub returns : goal.returns
 returns c =
-    let e = (c.write_pbm.ensures.result_value, c.write_pbm.ensures.target_after) in
     record {
       number = c.pack.ensures ∙ ap packed c.write_pbm.ensures.result_value;
       bytes = c.write_pbm.ensures.target_after;

@@ -6,7 +6,6 @@ use Rattle.hostfile.proofs.qik_pgm_write.Goals as goal
 
 pub returns : goal.returns
 returns c =
-    let e = (c.write_pgm.ensures.result_value, c.write_pgm.ensures.target_after) in
     record {
       number = c.pack.ensures ∙ ap packed c.write_pgm.ensures.result_value;
       bytes = c.write_pgm.ensures.target_after;

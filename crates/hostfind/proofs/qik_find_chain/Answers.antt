@@ -23,7 +23,7 @@ pack_chain-requires c =
 
 pub returns : goal.returns
 returns c =
-    let e = (c.find_chain-found.ensures.found, c.find_chain-found.ensures.bytes) in record {
+    record {
       number = c.pack_chain.ensures ∙ find_packed _ _ _ c.find_chain-found.ensures.found _ _ c.pack.ensures
           c.flag-tried.ensures;
       bytes = c.find_chain-found.ensures.bytes;

@@ -6,7 +6,6 @@ use Rattle.hostgrow.proofs.reconstruct.Goals as goal
 
 pub returns : goal.returns
 returns c =
-    let e = (c.reconstruct.ensures.answer, c.reconstruct.ensures.bytes) in
     record {
       number = c.pack.ensures ∙ ap packed c.reconstruct.ensures.answer;
       bytes = c.reconstruct.ensures.bytes;

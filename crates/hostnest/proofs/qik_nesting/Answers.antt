@@ -6,7 +6,7 @@ use Rattle.hostnest.proofs.qik_nesting.Goals as goal
 
 pub returns : goal.returns
 returns c =
-    let n = (c.nest-nested.ensures.back, c.nest-nested.ensures.numbers) in record {
+    record {
       number = λ R f. c.pack_nested.ensures ∙ nest_packed R _ _ _ _ _ _ c.pack.ensures (c.nest-nested.ensures.back R f);
       numbers = c.nest-nested.ensures.numbers;
     }

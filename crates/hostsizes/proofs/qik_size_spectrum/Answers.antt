@@ -6,7 +6,6 @@ use Rattle.hostsizes.proofs.qik_size_spectrum.Goals as goal
 
 pub returns : goal.returns
 returns c =
-    let e = (c.spectrum.ensures.answer, (c.spectrum.ensures.counts, c.spectrum.ensures.scratch)) in
     record {
       number = c.pack.ensures ∙ ap packed c.spectrum.ensures.answer;
       counts = c.spectrum.ensures.counts;

@@ -25,5 +25,5 @@ returns-in-99 c = sym (ap asked_of c.in-99.is)
 pub returns-in_default : goal.returns-in_default
 unfolding asked_of known_letter
 returns-in_default c =
-    let k = c.in_default.rest in
+    let k = c.in_default.in_default-own.rest in
     simp (ne_eqb _ 101 k.0.0.0.1, ne_eqb _ 100 k.0.0.1, ne_eqb _ 111 k.0.1, ne_eqb _ 99 k.1)

@@ -39,5 +39,5 @@ returns-in-2 c =
 
 pub returns-in_default : goal.returns-in_default
 returns-in_default c =
-    let k = c.in_default.rest in
+    let k = c.in_default.in_default-own.rest in
     flag_other _ _ _ _ _ _ _ k.0.0.1 k.0.1 k.1 _ _ (c.refused.ensures.answer_value, c.refused.ensures.text_after)

@@ -12,39 +12,38 @@ use mathlib.Core.Bool.{true}
 use mathlib.Core.Path.{◌≡◌, sym, ◌∙◌}
 use native.Mathlib.Nat.{le_of_eq}
 use native.Mathlib.Omega.{arith}
-use borrow.Author.Tests.{not-true, not-false}
 use Rattle.judge.proofs.refusal.Goals as goal
 use Rattle.judge.proofs.refusal.Goals.{Else-not-is_done, Else-not-is_passed, Else-not-sized, Else-s-n}
 
 size_known : (c : Else-not-sized) → let a = c.args in sized_frame a.w a.h ≡ true
-size_known c = sym c.sized.ensures ∙ not-false _ c.if-not-sized.false
+size_known c = sym c.sized.ensures ∙ c.if-not-sized.false
 
 -- the source has its bytes
 bytes_known : (c : Else-s-n) → let a = c.args in
     c.picture_bytes-n.result ≡ picture_bytes a.depth a.w a.h
 bytes_known c = let a = c.args in
     bytes_are a.padding a.depth a.w a.h
-    a.s.now _ c.picture_bytes-n.ensures (size_known c.before.before)
+    a.s.now _ c.picture_bytes-n.ensures (size_known (goal.at.Else-s-n c).Else-not-sized)
 
 -- the padding passes: all that is left to say stands after the tests of the picture
 passed_known : (c : Else-not-is_passed) (after : Told) → let a = c.args in
     after ≡ refuse (picture_tests a.padding a.depth a.w a.h a.s.now) after
 passed_known c after = let a = c.args in
-    picture_passed a.padding a.depth a.w a.h a.s.now after (size_known c.before.before.before.before) _
+    picture_passed a.padding a.depth a.w a.h a.s.now after (size_known (goal.at.Else-not-is_passed c).Else-not-sized) _
     c.picture_bytes-n.ensures c.if-s-n.false
-    (sym c.is_passed.ensures ∙ not-false _ c.if-not-is_passed.false)
+    (sym c.is_passed.ensures ∙ c.if-not-is_passed.false)
 
 -- what stands between was done
 between_known : (c : Else-not-is_done)
     → is_done (told c.args.between) ≡ true
-between_known c = sym c.is_done.ensures ∙ not-false _ c.if-not-is_done.false
+between_known c = sym c.is_done.ensures ∙ c.if-not-is_done.false
 
 pub returns-then-not-sized : goal.returns-then-not-sized
 unfolding told
 returns-then-not-sized c =
     let a = c.args in
     refused_size a.padding a.depth a.w a.h
-    a.s.now _ (sym c.sized.ensures ∙ not-true _ c.if-not-sized.true)
+    a.s.now _ (sym c.sized.ensures ∙ c.if-not-sized.true)
 
 pub returns-then-s-n : goal.returns-then-s-n
 unfolding told
@@ -57,7 +56,7 @@ pub is_passed-requires : goal.is_passed-requires
 is_passed-requires c =
     let a = c.args in
     holds a.padding a.depth a.w a.h a.s.now _ (size_known (goal.at.is_passed-requires c).Else-not-sized)
-    (le_of_eq (sym (c.if-s-n.false ∙ bytes_known (goal.at.is_passed-requires c).Else-s-n)))
+    (le_of_eq (sym (c.if-s-n.false ∙ bytes_known c)))
 
 pub returns-then-not-is_passed : goal.returns-then-not-is_passed
 unfolding told
@@ -65,13 +64,13 @@ returns-then-not-is_passed c =
     let a = c.args in
     refused_pad a.padding a.depth a.w a.h a.s.now _ (size_known (goal.at.returns-then-not-is_passed c).Else-not-sized) _
     c.picture_bytes-n.ensures c.if-s-n.false
-    (sym c.is_passed.ensures ∙ not-true _ c.if-not-is_passed.true)
+    (sym c.is_passed.ensures ∙ c.if-not-is_passed.true)
 
 pub returns-then-not-is_done : goal.returns-then-not-is_done
 returns-then-not-is_done c =
     let a = c.args in
     refused_between a.padding a.depth a.w a.h a.s.now (told a.between) _
-    (sym c.is_done.ensures ∙ not-true _ c.if-not-is_done.true)
+    (sym c.is_done.ensures ∙ c.if-not-is_done.true)
     ∙ passed_known (goal.at.returns-then-not-is_done c).Else-not-is_passed _
 
 pub returns-then-room-before : goal.returns-then-room-before

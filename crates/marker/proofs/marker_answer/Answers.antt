@@ -11,19 +11,18 @@ use Rattle.answer.specs.Answer.{told}
 use mathlib.Core.Bool.{true}
 use mathlib.Core.Path.{◌≡◌, sym, ◌∙◌}
 use native.Mathlib.Nat.{le_of_eq}
-use borrow.Author.Tests.{not-true, not-false}
 use lib.ListN.{length}
 use Rattle.marker.proofs.marker_answer.Goals as goal
 use Rattle.marker.proofs.marker_answer.Goals.{Else-marker-n, Else-mask-n, Else-not-sized}
 
 size_known : (c : Else-not-sized) → let a = c.args in sized_frame a.w a.h ≡ true
-size_known c = sym c.sized.ensures ∙ not-false _ c.if-not-sized.false
+size_known c = sym c.sized.ensures ∙ c.if-not-sized.false
 
 bytes_known : (c : Else-marker-n) → let a = c.args in
     c.picture_bytes-n.result ≡ picture_bytes OneBit a.w a.h
 bytes_known c = let a = c.args in
     bytes_are Free OneBit a.w a.h a.marker.now _ c.picture_bytes-n.ensures
-    (size_known c.before.before)
+    (size_known (goal.at.Else-marker-n c).Else-not-sized)
 
 -- the marker has them
 marker_known : (c : Else-marker-n) → let a = c.args in
@@ -33,20 +32,20 @@ marker_known c = c.if-marker-n.false ∙ bytes_known c
 -- and the mask
 mask_known : (c : Else-mask-n) → let a = c.args in
     length a.mask.now ≡ picture_bytes OneBit a.w a.h
-mask_known c = c.if-mask-n.false ∙ bytes_known c.before
+mask_known c = c.if-mask-n.false ∙ bytes_known (goal.at.Else-mask-n c).Else-marker-n
 
 fits_known : (c : Else-mask-n) → let a = c.args in
     fits a.w a.h a.marker.now a.mask.now ≡ true
 fits_known c = let a = c.args in
-    all_fits a.w a.h a.marker.now a.mask.now (size_known c.before.before.before)
-    (marker_known c.before) (mask_known c)
+    all_fits a.w a.h a.marker.now a.mask.now (size_known (goal.at.Else-mask-n c).Else-not-sized)
+    (marker_known (goal.at.Else-mask-n c).Else-marker-n) (mask_known c)
 
 pub returns-then-not-sized : goal.returns-then-not-sized
 unfolding told
 returns-then-not-sized c =
     let a = c.args in
     not_seen _ _ (no_size a.w a.h a.marker.now a.mask.now
-    (sym c.sized.ensures ∙ not-true _ c.if-not-sized.true))
+    (sym c.sized.ensures ∙ c.if-not-sized.true))
 
 pub returns-then-marker-n : goal.returns-then-marker-n
 unfolding told
@@ -69,7 +68,7 @@ lies_within-requires c =
     let a = c.args in
     let z = size_known (goal.at.lies_within-requires c).Else-not-sized in record {
       holds = holds Free OneBit a.w a.h a.marker.now _ z (le_of_eq (sym (marker_known (goal.at.lies_within-requires c).Else-marker-n)));
-      holds_2 = holds Free OneBit a.w a.h a.mask.now _ z (le_of_eq (sym (mask_known (goal.at.lies_within-requires c).Else-mask-n)));
+      holds_2 = holds Free OneBit a.w a.h a.mask.now _ z (le_of_eq (sym (mask_known c)));
     }
 
 pub returns-then-lies_within : goal.returns-then-lies_within

@@ -4,7 +4,6 @@ use mathlib.Core.Bool.{true}
 use mathlib.Core.Path.{sym, ◌∙◌}
 use native.Mathlib.Omega.{arith}
 use borrow.Author.Rules.{rules}
-use borrow.Author.Tests.{not-true, not-false}
 use Rattle.marker.proofs.row_within.Goals as goal
 
 pub loop-i-init : goal.loop-i-init
@@ -15,14 +14,14 @@ returns-then-not-byte_within c =
     let a = c.args in
     row_stopped a.a.now a.b.now a.at a.n a.u c.loop-i.i
     c.loop-i-test.true
-    (sym c.byte_within.ensures ∙ not-true _ c.if-not-byte_within.true)
+    (sym c.byte_within.ensures ∙ c.if-not-byte_within.true)
 
 pub loop-i-preserved : goal.loop-i-preserved
 loop-i-preserved c =
     let l = c.loop-i in (
       search rules,
       all_more _ l.i l.invariant.1
-          (sym c.byte_within.ensures ∙ not-false _ c.if-not-byte_within.false),
+          (sym c.byte_within.ensures ∙ c.if-not-byte_within.false),
     )
 
 pub returns : goal.returns

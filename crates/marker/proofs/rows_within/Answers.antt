@@ -6,7 +6,6 @@ use mathlib.Core.Bool.{true}
 use mathlib.Core.Path.{sym, ◌∙◌}
 use native.Mathlib.Omega.{arith}
 use borrow.Author.Rules.{rules}
-use borrow.Author.Tests.{not-true, not-false}
 use Rattle.marker.proofs.rows_within.Goals as goal
 
 pub loop-y-init : goal.loop-y-init
@@ -18,7 +17,6 @@ overflow_mul-y c = omega (arith, row_room c.args.n c.loop-y-test.true)
 pub row_within-requires : goal.row_within-requires
 row_within-requires c =
     let r = row_room c.args.n c.loop-y-test.true in
-    let p = (c.requires.le_n, c.requires.n_in_bounds) in
     record {
       le_n = c.requires.le_n;
       n_in_bounds = (omega (arith, r, c.requires.n_in_bounds.0), omega (arith, r, c.requires.n_in_bounds.1));
@@ -29,14 +27,14 @@ unfolding rows_within
 returns-then-not-row_within c =
     let a = c.args in
     sym (all_stop (λ j. row_within a.a.now a.b.now (j * a.n) a.n a.u) c.loop-y.y a.h
-    c.loop-y-test.true (sym c.row_within.ensures ∙ not-true _ c.if-not-row_within.true))
+    c.loop-y-test.true (sym c.row_within.ensures ∙ c.if-not-row_within.true))
 
 pub loop-y-preserved : goal.loop-y-preserved
 loop-y-preserved c =
     let l = c.loop-y in (
       search rules,
       all_more _ l.y l.invariant.1
-          (sym c.row_within.ensures ∙ not-false _ c.if-not-row_within.false),
+          (sym c.row_within.ensures ∙ c.if-not-row_within.false),
     )
 
 pub returns : goal.returns

@@ -37,7 +37,7 @@ returns-in-3 c =
 pub returns-in_default : goal.returns-in_default
 returns-in_default c =
     let a = c.args in
-    let k = c.in_default.rest in
+    let k = c.in_default.in_default-own.rest in
     c.up_right_mate.ensures
     ∙ sym (mate_rest (point_of a.s.now a.w) a.w a.h a.i a.k
     k.0.0.0.1 k.0.0.1 k.0.1 k.1)

@@ -19,7 +19,6 @@ returns-then-z-a c =
 pub rows_of-x-requires : goal.rows_of-x-requires
 rows_of-x-requires c =
     let z = c.end_row-z.ensures in
-    let p = (c.requires.n_bound, c.requires.r_lt_e) in
     let l = c.if-z-a.false in (c.requires.n_bound.0, (omega (arith, z, c.requires.n_bound.1.0), (omega (arith, l), c.requires.n_bound.1.1)))
 
 pub returns : goal.returns

@@ -15,10 +15,10 @@ pub loop-i-init : goal.loop-i-init
 loop-i-init c = (search rules, (search rules, rows_none _ _ _ _ _))
 
 pub overflow_mul-i : goal.overflow_mul-i
-overflow_mul-i c = omega (arith, near (goal.at.overflow_mul-i c).In-loop-i)
+overflow_mul-i c = omega (arith, near c)
 
 pub row_at-requires : goal.row_at-requires
-row_at-requires c = (omega (arith, near (goal.at.row_at-requires c).In-loop-i), search rules)
+row_at-requires c = (omega (arith, near c), search rules)
 
 pub loop-i-preserved : goal.loop-i-preserved
 loop-i-preserved c =

@@ -26,11 +26,11 @@ loop-c-init c =
     )
 
 pub overflow_sub-e : goal.overflow_sub-e
-overflow_sub-e c = omega (arith, some (goal.at.overflow_sub-e c).After-next_cell-e)
+overflow_sub-e c = omega (arith, some c)
 
 pub end_cell-requires : goal.end_cell-requires
 end_cell-requires c =
-    (omega (arith, some (goal.at.end_cell-requires c).After-next_cell-e), omega (arith, some (goal.at.end_cell-requires c).After-next_cell-e, c.next_cell-e.ensures.few))
+    (omega (arith, some c), omega (arith, some c, c.next_cell-e.ensures.few))
 
 pub overflow_sub-e-in-loop-c : goal.overflow_sub-e-in-loop-c
 overflow_sub-e-in-loop-c c =

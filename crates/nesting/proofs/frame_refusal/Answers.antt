@@ -7,17 +7,15 @@ use Rattle.nesting.proofs.Refused.{points_fit}
 use mathlib.Core.Bool.{true}
 use mathlib.Core.Path.{◌≡◌, sym, ◌∙◌}
 use native.Mathlib.Omega.{arith}
-use borrow.Author.Tests.{not-true, not-false}
 use Rattle.nesting.proofs.frame_refusal.Goals as goal
 use Rattle.nesting.proofs.frame_refusal.Goals.{Else-not-sized}
 
 size_known : (c : Else-not-sized) → let a = c.args in sized_frame a.w a.h ≡ true
-size_known c = sym c.sized.ensures ∙ not-false _ c.if-not-sized.false
+size_known c = sym c.sized.ensures ∙ c.if-not-sized.false
 
 pub returns-then-not-sized : goal.returns-then-not-sized
 unfolding told
-returns-then-not-sized c =
-    refused_size _ _ _ (sym c.sized.ensures ∙ not-true _ c.if-not-sized.true)
+returns-then-not-sized c = refused_size _ _ _ (sym c.sized.ensures ∙ c.if-not-sized.true)
 
 pub returns-then-n-picture_bytes : goal.returns-then-n-picture_bytes
 unfolding told

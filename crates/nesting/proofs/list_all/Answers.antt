@@ -14,7 +14,7 @@ use Rattle.nesting.proofs.list_all.Goals.{After-inner-2-1}
 -- what the array holds of the first nodes
 module _ (c : After-inner-2-1) where
   abbrev start : tie.Start
-  start = c.before.before.before.before.before
+  start = c.before.before.before.before.before.before
 
   holds : take start.args.k c.gather.new.inner ≡ inner_of (at start.args.labels.now)
       start.args.n
@@ -28,7 +28,6 @@ module _ (c : After-inner-2-1) where
 
 pub gather-requires : goal.gather-requires
 gather-requires c =
-    let p = (c.requires.labelled, (c.requires.k_value, c.requires.k_bound)) in
     (c.requires.labelled.room, (omega (arith, c.requires.labelled.few_points), omega (arith, c.requires.k_value, c.requires.k_bound.0)))
 
 pub slice_bounds-inner-end : goal.slice_bounds-inner-end

@@ -45,7 +45,7 @@ answered : (c : After-region_refusal-no) → let a = c.args in
     ≡ refuse (region_tests (regions_of (at a.labels.now) a.n) (length a.list.now)) (plain 0)
 answered c = c.region_refusal-no.ensures
     ∙ ap (λ k. refuse (region_tests k (length c.args.list.now)) (plain 0))
-    (as_many c.before)
+    (as_many (goal.at.After-region_refusal-no c).After-inner_regions-k)
 
 pub inner_regions-k-requires : goal.inner_regions-k-requires
 inner_regions-k-requires c =
@@ -53,11 +53,10 @@ inner_regions-k-requires c =
     (p.room, omega (arith, p.few_points))
 
 pub overflow_add-k : goal.overflow_add-k
-overflow_add-k c = omega (arith, few (goal.at.overflow_add-k c).After-inner_regions-k)
+overflow_add-k c = omega (arith, few c)
 
 pub region_refusal-no-requires : goal.region_refusal-no-requires
-region_refusal-no-requires c =
-    few (goal.at.region_refusal-no-requires c).After-inner_regions-k
+region_refusal-no-requires c = few c
 
 pub list_all-requires : goal.list_all-requires
 list_all-requires c =

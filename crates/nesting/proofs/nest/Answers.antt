@@ -45,7 +45,7 @@ pub returns-then-is_done : goal.returns-then-is_done
 returns-then-is_done c =
     let a = c.args in
     let l = c.label in
-    let e = (c.list_labels.ensures.given_back, c.list_labels.ensures.list_after) in (
+    (
       λ R f. back_as _ _ _ _ _
           (answer_as a.source.now _ a.w a.h (known (goal.at.returns-then-is_done c).Then-is_done) _ l.ensures R f (passed (goal.at.returns-then-is_done c).Then-is_done) _)
           (as_many a.source.now _ a.w a.h (known (goal.at.returns-then-is_done c).Then-is_done) _ l.ensures R f) c.list_labels.ensures.given_back,

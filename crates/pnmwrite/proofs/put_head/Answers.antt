@@ -7,7 +7,7 @@ use Rattle.digits.specs.Decimal.{decimal}
 use Rattle.digits.specs.Put.{put}
 use Rattle.digits.proofs.Pieces.{Left, none_put, piece_put, piece_fits, all_put}
 use lib.ListN.{length, take}
-use mathlib.Core.List.{List, ◌∷◌, ◌++◌, flatten}
+use mathlib.Core.List.{List, [], ◌∷◌, ◌++◌, flatten}
 use mathlib.Core.Path.{◌≡◌, sym, ap, ◌∙◌, subst}
 use Prim.Native.Nat.{ℕ, ◌+◌}
 use native.Mathlib.Nat.{zero-add}
@@ -29,18 +29,18 @@ abbrev all_on : Depth → ℕ → ℕ → ℕ → List (List ℕ)
 all_on depth digit w h = ((80 ∷ digit ∷ 10 ∷ []) ++ decimal w) ∷ bins_on depth h
 
 all_left : (c : After-magic_digit) → let a = c.args in
-    LeftOf c.before.before (all_on a.depth c.magic_digit.result a.w a.h) 0 a.t.now
+    LeftOf c.before.before.before (all_on a.depth c.magic_digit.result a.w a.h) 0 a.t.now
 all_left c = let a = c.args in
     none_put (omega (arith, c.requires))
     (ap (λ m. flatten (all_on a.depth m a.w a.h)) c.magic_digit.ensures
     ∙ head_is a.depth a.w a.h)
 
-bins_left : (c : After-put_labelled-a) → LeftOf c.before.before.before.before.before (bins_on c.args.depth c.args.h) c.put_labelled-a.result c.put_labelled-a.new.t
-bins_left c = piece_put (all_left c.before.before.before) (c.put_labelled-a.ensures.value, c.put_labelled-a.ensures.t_after)
+bins_left : (c : After-put_labelled-a) → LeftOf c.before.before.before.before.before.before (bins_on c.args.depth c.args.h) c.put_labelled-a.result c.put_labelled-a.new.t
+bins_left c = piece_put (all_left (goal.at.After-put_labelled-a c).After-magic_digit) (c.put_labelled-a.ensures.value, c.put_labelled-a.ensures.t_after)
 
 end_left : (c : After-put_labelled-b) →
-    LeftOf c.before.before.before.before.before.before.before.before.before.before (end_on c.args.depth) c.put_labelled-b.result c.put_labelled-b.new.t
-end_left c = piece_put (bins_left c.before.before.before.before.before) (c.put_labelled-b.ensures.value, c.put_labelled-b.ensures.t_after)
+    LeftOf (goal.at.After-put_labelled-b c).After-slice_known-1 (end_on c.args.depth) c.put_labelled-b.result c.put_labelled-b.new.t
+end_left c = piece_put (bins_left (goal.at.After-put_labelled-b c).After-t-1) (c.put_labelled-b.ensures.value, c.put_labelled-b.ensures.t_after)
 
 -- the last piece is the end
 end_is : (c : After-tail_len-n) →

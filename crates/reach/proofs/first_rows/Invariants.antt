@@ -10,7 +10,7 @@ use Rattle.reach.proofs.first_rows.Given as goal
 
 abbrev pub invariant-loop-r : goal.invariant-loop-r
 invariant-loop-r l =
-    (rr ≤ most_link_cells) × (l.rows ≡ firsts (λ rr. get_or l.cells rr 0) rr ++ replicate (most_link_cells - rr) 0)
+    (l.r ≤ most_link_cells) × (l.rows ≡ firsts (λ r. get_or l.cells r 0) l.r ++ replicate (most_link_cells - l.r) 0)
 
 abbrev pub decreases-loop-r : goal.decreases-loop-r
 decreases-loop-r l = most_link_cells - l.r

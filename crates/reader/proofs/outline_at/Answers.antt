@@ -10,13 +10,13 @@ tests : (c : Start) → Cells c.args.d.now
 tests c = cells_tell c.args.d.now c.requires
 
 pub bounds-d-0 : goal.bounds-d-0
-bounds-d-0 c = let t = tests (goal.at.bounds-d-0 c).Start in omega arith
+bounds-d-0 c = let t = tests c.before.before.before in omega arith
 
 pub bounds-d-1 : goal.bounds-d-1
-bounds-d-1 c = let t = tests (goal.at.bounds-d-1 c).Start in omega arith
+bounds-d-1 c = let t = tests c.before.before.before.before.before in omega arith
 
 pub origin_of-origin-requires : goal.origin_of-origin-requires
-origin_of-origin-requires c = (tests (goal.at.origin_of-origin-requires c).Start).long
+origin_of-origin-requires c = (tests c.before.before.before.before.before.before).long
 
 pub returns : goal.returns
 unfolding element_of

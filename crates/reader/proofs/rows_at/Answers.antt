@@ -14,14 +14,14 @@ tests : (c : Start) → Cells c.args.d.now
 tests c = cells_tell c.args.d.now c.requires
 
 pub bounds-d-0 : goal.bounds-d-0
-bounds-d-0 c = let t = tests (goal.at.bounds-d-0 c).Start in omega arith
+bounds-d-0 c = let t = tests c.before.before.before in omega arith
 
 pub bounds-d-1 : goal.bounds-d-1
-bounds-d-1 c = let t = tests (goal.at.bounds-d-1 c).Start in omega arith
+bounds-d-1 c = let t = tests c.before.before.before.before.before in omega arith
 
 pub words_of-requires : goal.words_of-requires
 words_of-requires c =
-    let t = tests (goal.at.words_of-requires c).Start in
+    let t = tests c.before.before.before.before.before.before.before in
     let high = c.size-h.ensures.0 in
     let row = c.row_bytes.ensures ∙ ap (row_bytes OneBit) c.size-w.ensures.0 in
     (omega (arith, high, t.few_high), omega (arith, ap₂ (λ m n. 4 + m * n) high row, t.rows))

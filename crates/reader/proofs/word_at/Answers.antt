@@ -10,18 +10,17 @@ use Rattle.reader.proofs.word_at.Goals.{After-shared_slice_known-1, Start}
 abbrev byte : Start → ℕ → ℕ
 byte c = word_byte c.args.d.now c.args.at c.args.n
 
-bytes : (c : After-shared_slice_known-1) → (j : ℕ) → byte c.before j < 256
+bytes : (c : After-shared_slice_known-1) → (j : ℕ) → byte c.before.before j < 256
 bytes c = word_byte_lt _ (λ i. omega (arith, c.type_inv.d i)) _ _
 
 pub loop-j-init : goal.loop-j-init
-loop-j-init c =
-    (search rules, digits_none 8 _ (bytes (goal.at.loop-j-init c).After-shared_slice_known-1))
+loop-j-init c = (search rules, digits_none 8 _ (bytes c))
 
 pub loop-j-preserved : goal.loop-j-preserved
 loop-j-preserved c =
     let l = c.loop-j in (
       search rules,
-      digits_more 8 (byte (goal.at.loop-j-preserved c).Start) (bytes (goal.at.loop-j-preserved c).After-shared_slice_known-1) 64 l.j
+      digits_more 8 (byte c.before.before.before.before.before) (bytes (goal.at.loop-j-preserved c).After-shared_slice_known-1) 64 l.j
           l.v _ (omega arith) l.invariant.1 c.byte_or_none.ensures,
     )
 

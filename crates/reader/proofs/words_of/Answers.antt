@@ -17,13 +17,13 @@ pub loop-r-init : goal.loop-r-init
 loop-r-init c = (search rules, fill_none _ most_cells 0)
 
 pub overflow_mul-at : goal.overflow_mul-at
-overflow_mul-at c = omega (arith, room (goal.at.overflow_mul-at c).In-loop-r)
+overflow_mul-at c = omega (arith, room c)
 
 pub overflow_add-at : goal.overflow_add-at
-overflow_add-at c = omega (arith, room (goal.at.overflow_add-at c).In-loop-r)
+overflow_add-at c = omega (arith, room c)
 
 pub word_at-requires : goal.word_at-requires
-word_at-requires c = omega (arith, room (goal.at.word_at-requires c).In-loop-r)
+word_at-requires c = omega (arith, room c)
 
 pub offset_bounds-rows-r : goal.offset_bounds-rows-r
 offset_bounds-rows-r c = omega arith

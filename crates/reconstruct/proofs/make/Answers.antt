@@ -23,13 +23,12 @@ grow-requires c =
 pub returns : goal.returns
 returns c =
     let a = c.args in
-    let g = (c.grow.ensures.grew, c.grow.ensures.still) in
     let mask = value_at OneBit a.mask.now a.w in
     let marker = value_at OneBit a.marker.now a.w in
     made_from a.neighbours a.w a.h c.requires.holds.some_pings a.marker.now a.mask.now
     ((outside_none (frame a.w a.h) mask marker).0 c.requires.w_value) a.target.now _ _
     (λ i. omega (
       arith,
-      (goal.at.returns c).After-slice_known-1.slice_known-1.given i,
+      c.slice_known-1.given i,
     )) c.requires.holds_3.long c.copy_picture.ensures
     _ _ _ c.is_square.ensures c.row_bytes-n.ensures c.spare_bits-u.ensures c.grow.ensures.grew c.grow.ensures.still

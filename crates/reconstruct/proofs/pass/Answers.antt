@@ -54,7 +54,7 @@ loop-i-preserved c =
             c.type_inv.mask i,
           ))
           (l.invariant.1.grew.bytes
-          (λ i. omega (arith, (goal.at.loop-i-preserved c).After-slice_known-1.slice_known-1.given i)))
+          (λ i. omega (arith, c.slice_known-1.given i)))
           (cell_fits a.r (length a.mask.now) a.y _ _ c.requires.room c.requires.y_lt_h f.1 k)
           (cell_fits a.r _ a.y _ _ room c.requires.y_lt_h f.1 k)
           s.result s.ensures.changed s.ensures.bytes)

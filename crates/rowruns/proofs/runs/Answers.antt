@@ -33,7 +33,7 @@ loop-a-preserved c =
       run_more a.grows a.n a.h p.some_bytes a.t.now
           (λ i. omega (
             arith,
-            (goal.at.loop-a-preserved c).After-slice_known-1.slice_known-1.given i,
+            c.slice_known-1.given i,
           )) p.long l.a _ l.t _ l.invariant.0
           (omega (arith, d)) l.invariant.3 e (λ i. omega (arith, c.type_inv.t i)),
     )
@@ -47,5 +47,5 @@ returns c =
     let p = c.requires in
     let l = c.loop-a in
     run_all a.grows a.n a.h p.some_bytes a.t.now
-    (λ i. omega (arith, (goal.at.returns c).After-slice_known-1.slice_known-1.given i)) p.long l.a a.k l.t l.invariant.3
+    (λ i. omega (arith, c.slice_known-1.given i)) p.long l.a a.k l.t l.invariant.3
     (omega (arith, l.invariant.1, c.loop-a-test.false))

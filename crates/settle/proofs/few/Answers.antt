@@ -10,18 +10,17 @@ use Rattle.settle.proofs.few.Goals.{After-shared_slice_known-1, Start}
 abbrev byte : Start → ℕ → ℕ
 byte c i = get_or c.args.s.now (c.args.at + i) 0
 
-bytes : (c : After-shared_slice_known-1) → (j : ℕ) → byte c.before j < 256
+bytes : (c : After-shared_slice_known-1) → (j : ℕ) → byte c.before.before j < 256
 bytes c j = omega (arith, c.type_inv.s (c.args.at + j))
 
 pub loop-i-init : goal.loop-i-init
-loop-i-init c =
-    (search rules, digits_none 8 _ (bytes (goal.at.loop-i-init c).After-shared_slice_known-1))
+loop-i-init c = (search rules, digits_none 8 _ (bytes c))
 
 pub loop-i-preserved : goal.loop-i-preserved
 loop-i-preserved c =
     let l = c.loop-i in (
       search rules,
-      digits_more 8 (byte (goal.at.loop-i-preserved c).Start) (bytes (goal.at.loop-i-preserved c).After-shared_slice_known-1) 64 l.i
+      digits_more 8 (byte c.before.before.before.before.before.before) (bytes (goal.at.loop-i-preserved c).After-shared_slice_known-1) 64 l.i
           l.v _ (omega arith) l.invariant.1 c.wide.ensures.0,
     )
 

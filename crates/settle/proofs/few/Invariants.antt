@@ -7,7 +7,7 @@ use mathlib.Core.Path.{◌≡◌}
 use Rattle.settle.proofs.few.Given as goal
 
 abbrev pub invariant-loop-i : goal.invariant-loop-i
-invariant-loop-i l = (ii ≤ l.k) × (l.v ≡ digits 8 (λ ii. get_or l.s (l.at + ii) 0) ii)
+invariant-loop-i l = (l.i ≤ l.k) × (l.v ≡ digits 8 (λ i. get_or l.s (l.at + i) 0) l.i)
 
 abbrev pub decreases-loop-i : goal.decreases-loop-i
 decreases-loop-i l = l.k - l.i

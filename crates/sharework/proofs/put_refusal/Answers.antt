@@ -23,12 +23,10 @@ returns-then-numbers-n c =
     put_above a.numbers a.room (held_at a.numbers a.s.now) a.n a.d.now c.if-numbers-n.true
 
 pub overflow_sub-live : goal.overflow_sub-live
-overflow_sub-live c =
-    let h = live (goal.at.overflow_sub-live c).After-length_at in omega (arith, h.0)
+overflow_sub-live c = let h = live c in omega (arith, h.0)
 
 pub overflow_sub-room : goal.overflow_sub-room
-overflow_sub-room c =
-    let h = live (goal.at.overflow_sub-room c).After-length_at in omega (arith, h.1)
+overflow_sub-room c = let h = live c in omega (arith, h.1)
 
 pub returns-then-room-live : goal.returns-then-room-live
 returns-then-room-live c =

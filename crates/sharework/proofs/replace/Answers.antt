@@ -8,7 +8,7 @@ use Rattle.sharework.proofs.replace.Goals as goal
 use Rattle.sharework.proofs.replace.Goals.{After-total-2}
 
 byte : (c : After-total-2) (i : ℕ) → get_or c.args.s.now i 0 < 256
-byte c i = let f = c.before.before.before.before.slice_known-1.given i in omega arith
+byte c i = let f = c.slice_known-1.given i in omega arith
 
 pub overflow_sub-all : goal.overflow_sub-all
 overflow_sub-all c =

@@ -13,12 +13,11 @@ use Rattle.spectrum.proofs.Counted.{next_fewer, count_is, last_is, counts_all}
 use Rattle.spectrum.proofs.count_sides.Goals as goal
 
 pub survivors-here-requires : goal.survivors-here-requires
-survivors-here-requires c =
-    let p = (c.requires.holds, (c.requires.in_bounds, c.requires.t_len)) in ((omega arith, omega arith), (c.requires.holds, c.requires.t_len))
+survivors-here-requires c = ((omega arith, omega arith), (c.requires.holds, c.requires.t_len))
 
 pub loop-i-init : goal.loop-i-init
 loop-i-init c =
-    let p = (c.requires.holds, (c.requires.in_bounds, c.requires.t_len)) in (
+    (
       search rules,
       search rules,
       c.survivors-here.auto.t ∙ c.requires.t_len,
@@ -28,7 +27,6 @@ loop-i-init c =
 
 pub survivors-next-requires : goal.survivors-next-requires
 survivors-next-requires c =
-    let p = (c.requires.holds, (c.requires.in_bounds, c.requires.t_len)) in
     ((omega arith, omega (arith, c.loop-i-test.true)), (c.requires.holds, c.loop-i.invariant.2))
 
 pub overflow_sub-counts : goal.overflow_sub-counts

@@ -14,9 +14,9 @@ use Rattle.spectrum.proofs.count_sides.Given as goal
 
 abbrev pub invariant-loop-i : goal.invariant-loop-i
 invariant-loop-i l =
-    (ii ≤ 31) × (length l.counts ≡ length l.initial.counts) × (length l.t ≡ picture_bytes OneBit l.w l.h)
-    × (l.here ≡ defined.survivors (frame l.w l.h) (value_at OneBit l.source l.w) (ii + 1))
-    × (l.counts ≡ firsts (λ ii. count_at (frame l.w l.h) (value_at OneBit l.source l.w) (ii + 1)) ii ++ drop ii l.initial.counts)
+    (l.i ≤ 31) × (length l.counts ≡ length l.initial.counts) × (length l.t ≡ picture_bytes OneBit l.w l.h)
+    × (l.here ≡ defined.survivors (frame l.w l.h) (value_at OneBit l.source l.w) (l.i + 1))
+    × (l.counts ≡ firsts (λ i. count_at (frame l.w l.h) (value_at OneBit l.source l.w) (i + 1)) l.i ++ drop l.i l.initial.counts)
 
 abbrev pub decreases-loop-i : goal.decreases-loop-i
 decreases-loop-i l = 31 - l.i

@@ -19,7 +19,6 @@ bytes c = ap (λ r. c.args.h * r) c.row_bytes.ensures
 
 few : (c : After-row_bytes) → c.args.h * c.row_bytes.result ≤ 32768
 few c = let a = c.args in
-    let p = (c.requires.holds, (c.requires.in_bounds, c.requires.h_in_bounds)) in
     few_bytes a.w a.h _ c.requires.holds.few_pings c.requires.holds.few_bins (bytes c)
 
 -- what the counting leaves of the first part is as long
@@ -29,7 +28,7 @@ part_long c = c.count_sides.auto.t
     ∙ length-take-le _ c.args.scratch.now
     (omega (
       arith,
-      bytes c.before.before.before.before.before.before.before,
+      bytes (goal.at.After-slice_known-4-1 c).After-row_bytes,
       c.requires.h_in_bounds,
     ))
 
@@ -37,7 +36,7 @@ whole : (c : After-slice_known-4-1) → let a = c.args in
     2 * (a.h * c.row_bytes.result) ≤ length a.scratch.now
 whole c = omega (
   arith,
-  bytes c.before.before.before.before.before.before.before,
+  bytes (goal.at.After-slice_known-4-1 c).After-row_bytes,
   c.requires.h_in_bounds,
 )
 
@@ -52,8 +51,7 @@ stays c = let a = c.args in
     (whole c)
 
 pub overflow_mul-n : goal.overflow_mul-n
-overflow_mul-n c =
-    record { fits = omega (arith, few (goal.at.overflow_mul-n c).After-row_bytes) }
+overflow_mul-n c = record { fits = omega (arith, few c) }
 
 pub slice_bounds-count_sides-end : goal.slice_bounds-count_sides-end
 slice_bounds-count_sides-end c =
@@ -70,7 +68,7 @@ slice_bounds-count_sides-end-2 c =
 
 pub count_sides-requires : goal.count_sides-requires
 count_sides-requires c =
-    let p = (c.requires.holds, (c.requires.in_bounds, c.requires.h_in_bounds)) in record {
+    record {
       holds = c.requires.holds;
       in_bounds = c.requires.in_bounds;
       t_len = length-take-le _ c.args.scratch.now
@@ -82,7 +80,7 @@ overflow_mul-m c =
     record { fits = omega (arith, few (goal.at.overflow_mul-m c).After-row_bytes) }
 
 pub slice_bounds-begin-end : goal.slice_bounds-begin-end
-slice_bounds-begin-end c = stays (goal.at.slice_bounds-begin-end c).After-slice_known-4-1
+slice_bounds-begin-end c = stays c
 
 pub slice_bounds-begin-end-2 : goal.slice_bounds-begin-end-2
 slice_bounds-begin-end-2 c =

@@ -40,7 +40,7 @@ returns-then-is_done c =
     _ _
     c.list_room-list.ensures c.refusal-no.ensures in
     let done = sym c.is_done.ensures ∙ c.if-is_done.true in
-    let m = (c.make.ensures.counts, c.make.ensures.scratch) in (
+    (
       e,
       (
         made_by_lem a.counts.now _ _ _ e _ done c.make.ensures.counts,

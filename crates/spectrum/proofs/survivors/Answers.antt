@@ -17,13 +17,13 @@ counted c = let a = c.args in
     ∙ survivors_counted a.w a.h a.k a.source.now a.t.now _ _ _
     (λ i. omega (
       arith,
-      c.before.before.before.before.before.before.before.before.before.before.before.before.before.slice_known-1.given i,
+      c.slice_known-1.given i,
     )) c.requires.t_len
     c.copy_picture.ensures c.sweep.ensures c.sweep-2.ensures
 
 pub copy_picture-requires : goal.copy_picture-requires
 copy_picture-requires c =
-    let p = (c.requires.le_k, (c.requires.holds, c.requires.t_len)) in record {
+    record {
       holds = c.requires.holds;
       holds_2 = record {
         some_pings = c.requires.holds.some_pings;
@@ -35,7 +35,6 @@ copy_picture-requires c =
 
 pub sweep-requires : goal.sweep-requires
 sweep-requires c =
-    let p = (c.requires.le_k, (c.requires.holds, c.requires.t_len)) in
     record {
       some_pings = c.requires.holds.some_pings;
       few_pings = c.requires.holds.few_pings;
@@ -47,7 +46,6 @@ sweep-requires c =
 
 pub sweep-requires-2 : goal.sweep-requires-2
 sweep-requires-2 c =
-    let p = (c.requires.le_k, (c.requires.holds, c.requires.t_len)) in
     record {
       some_pings = c.requires.holds.some_pings;
       few_pings = c.requires.holds.few_pings;
@@ -64,7 +62,6 @@ sweep-requires-2 c =
 
 pub count-requires : goal.count-requires
 count-requires c =
-    let p = (c.requires.le_k, (c.requires.holds, c.requires.t_len)) in
     few_bytes c.args.w c.args.h _ c.requires.holds.few_pings c.requires.holds.few_bins
     (c.sweep-2.auto.t ∙ c.sweep.auto.t ∙ c.copy_picture.auto.t
     ∙ c.requires.t_len)
@@ -72,14 +69,13 @@ count-requires c =
 pub overflow_cast-result : goal.overflow_cast-result
 overflow_cast-result c =
     let a = c.args in
-    let p = (c.requires.le_k, (c.requires.holds, c.requires.t_len)) in
     record {
       fits = omega (
         arith,
-        counted (goal.at.overflow_cast-result c).After-count,
+        counted c,
         survivors_few a.w a.h a.k a.source.now c.requires.holds.few_pings c.requires.holds.few_bins,
       );
     }
 
 pub returns : goal.returns
-returns c = counted (goal.at.returns c).After-count
+returns c = counted c

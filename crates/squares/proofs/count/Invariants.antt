@@ -9,7 +9,7 @@ use Rattle.squares.proofs.count.Given as goal
 
 abbrev pub invariant-loop-i : goal.invariant-loop-i
 invariant-loop-i l =
-    (ii ≤ length l.t) × (l.v ≤ 8 * ii) × (l.v ≡ fold ◌+◌ 0 (λ ii. ones (get_or l.t ii 0)) ii)
+    (l.i ≤ length l.t) × (l.v ≤ 8 * l.i) × (l.v ≡ fold ◌+◌ 0 (λ i. ones (get_or l.t i 0)) l.i)
 
 abbrev pub decreases-loop-i : goal.decreases-loop-i
 decreases-loop-i l = length l.t - l.i

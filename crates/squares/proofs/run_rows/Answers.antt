@@ -33,13 +33,13 @@ loop-y-init c =
     )
 
 pub overflow_mul-a : goal.overflow_mul-a
-overflow_mul-a c = omega (arith, room (goal.at.overflow_mul-a c).In-loop-y)
+overflow_mul-a c = omega (arith, room c)
 
 pub overflow_add-z : goal.overflow_add-z
-overflow_add-z c = omega (arith, room (goal.at.overflow_add-z c).In-loop-y)
+overflow_add-z c = omega (arith, room c)
 
 pub slice_bounds-run_row-end : goal.slice_bounds-run_row-end
-slice_bounds-run_row-end c = room (goal.at.slice_bounds-run_row-end c).In-loop-y
+slice_bounds-run_row-end c = room c
 
 pub run_row-requires : goal.run_row-requires
 run_row-requires c =

@@ -32,6 +32,6 @@ returns c =
     square_made a.grows a.k a.w a.h _ p.some_pings p.some_cells c.row_bytes-n.ensures
     a.t.now _ _ (λ i. omega (
       arith,
-      (goal.at.returns c).After-slice_known-1.slice_known-1.given i,
+      c.slice_known-1.given i,
     )) p.long
     c.run_rows.ensures c.runs.ensures

@@ -9,7 +9,7 @@ use mathlib.Core.Path.{◌≡◌}
 use Rattle.strokes.proofs.lacks_kind.Given as goal
 
 abbrev pub invariant-loop-r : goal.invariant-loop-r
-invariant-loop-r l = (rr ≤ l.o.h) × (all (λ rr. not (eqb (kind_at l.o l.words rr) l.k)) rr ≡ true)
+invariant-loop-r l = (l.r ≤ l.o.h) × (all (λ r. not (eqb (kind_at l.o l.words r) l.k)) l.r ≡ true)
 
 abbrev pub decreases-loop-r : goal.decreases-loop-r
 decreases-loop-r l = l.o.h - l.r

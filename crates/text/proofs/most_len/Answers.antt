@@ -11,7 +11,7 @@ few : (c : After-most_line) → c.args.h * c.most_line.result ≤ most_bins * 40
 few c = lines_fit _ _ c.most_line.ensures.1 c.requires.1
 
 pub overflow_mul-n : goal.overflow_mul-n
-overflow_mul-n c = omega (arith, few (goal.at.overflow_mul-n c).After-most_line)
+overflow_mul-n c = omega (arith, few c)
 
 pub overflow_add-result-4 : goal.overflow_add-result-4
 overflow_add-result-4 c = omega (arith, few (goal.at.overflow_add-result-4 c).After-most_line)

@@ -5,7 +5,7 @@ use Rattle.text.specs.Text.{refused_line}
 use Rattle.digits.specs.Decimal.{decimal}
 use Rattle.digits.proofs.Pieces.{Left, none_put, piece_put, piece_fits, all_put}
 use Prim.Native.Nat.{ℕ}
-use mathlib.Core.List.{List, ◌∷◌, ◌++◌}
+use mathlib.Core.List.{List, [], ◌∷◌, ◌++◌}
 use native.Mathlib.Omega.{arith}
 use Rattle.text.proofs.put_refused.Goals as goal
 use Rattle.text.proofs.put_refused.Goals.{After-put_labelled-a, Start}
@@ -22,9 +22,9 @@ all_left : (c : Start) →
 all_left c = none_put (omega (arith, c.requires)) (refused_is _)
 
 feed_left : (c : After-put_labelled-a) →
-    LeftOf c.before.before.before.before ((10 ∷ []) ∷ [])
+    LeftOf (goal.at.After-put_labelled-a c).After-slice_known-1 ((10 ∷ []) ∷ [])
     c.put_labelled-a.result c.put_labelled-a.new.t
-feed_left c = piece_put (all_left c.before.before.before.before) (c.put_labelled-a.ensures.value, c.put_labelled-a.ensures.t_after)
+feed_left c = piece_put (all_left (goal.at.After-put_labelled-a c).After-slice_known-1) (c.put_labelled-a.ensures.value, c.put_labelled-a.ensures.t_after)
 
 pub put_labelled-a-requires : goal.put_labelled-a-requires
 put_labelled-a-requires c =

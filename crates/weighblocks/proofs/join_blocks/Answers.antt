@@ -10,9 +10,7 @@ pub loop-k-init : goal.loop-k-init
 loop-k-init c = (search rules, search rules, blocks_none _ _ _ _ _)
 
 pub join_both-d-requires : goal.join_both-d-requires
-join_both-d-requires c =
-    let p = (c.requires.n_in_bounds, c.requires.b_len) in
-    (omega (arith, c.requires.b_len.0), c.requires.b_len.1)
+join_both-d-requires c = (omega (arith, c.requires.b_len.0), c.requires.b_len.1)
 
 pub loop-k-preserved : goal.loop-k-preserved
 loop-k-preserved c =

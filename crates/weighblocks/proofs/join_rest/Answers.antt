@@ -20,7 +20,6 @@ returns-then-t-i c =
 
 pub join_both-d-requires : goal.join_both-d-requires
 join_both-d-requires c =
-    let p = (c.requires.i_in_bounds, (c.requires.i_bound, c.requires.b_len)) in
     let l = c.requires.i_bound (omega arith) in
     (omega (arith, l, c.requires.b_len.0), c.requires.b_len.1)
 

@@ -8,7 +8,7 @@ use Rattle.weighblocks.proofs.some_at.Given as goal
 
 abbrev pub invariant-loop-i : goal.invariant-loop-i
 invariant-loop-i l =
-    (ii ≤ l.n) × (length l.c ≡ 64) × (l.c ≡ laid 0 ii (λ ii. get_or l.s (l.at + ii) 0) (replicate 64 0))
+    (l.i ≤ l.n) × (length l.c ≡ 64) × (l.c ≡ laid 0 l.i (λ i. get_or l.s (l.at + i) 0) (replicate 64 0))
 
 abbrev pub decreases-loop-i : goal.decreases-loop-i
 decreases-loop-i l = l.n - l.i

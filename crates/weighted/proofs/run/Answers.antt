@@ -34,11 +34,11 @@ found c = parts_read c.args.element.now _ _
 -- the heights begin within the descriptor
 start_of : (c : After-cells_end-at)
     → c.cells_end-at.result ≤ length c.args.element.now
-start_of c = let q = found c.before.before in
-    heights_start (judged c.before.before.before.before) _ q _ c.cells_end-at.ensures
+start_of c = let q = found (goal.at.After-cells_end-at c).After-rows_at-words in
+    heights_start (judged (goal.at.After-cells_end-at c).Then-is_done) _ q _ c.cells_end-at.ensures
 
 pub outline_at-o-requires : goal.outline_at-o-requires
-outline_at-o-requires c = (judged (goal.at.outline_at-o-requires c).Then-is_done).cells
+outline_at-o-requires c = (judged c).cells
 
 pub rows_at-words-requires : goal.rows_at-words-requires
 rows_at-words-requires c = (judged (goal.at.rows_at-words-requires c).Then-is_done).cells
@@ -48,12 +48,10 @@ cells_end-at-requires c =
     small (judged (goal.at.cells_end-at-requires c).Then-is_done) _ (found (goal.at.cells_end-at-requires c).After-rows_at-words)
 
 pub slice_bounds-heights-count : goal.slice_bounds-heights-count
-slice_bounds-heights-count c =
-    start_of (goal.at.slice_bounds-heights-count c).After-cells_end-at
+slice_bounds-heights-count c = start_of c
 
 pub slice_bounds-heights-start : goal.slice_bounds-heights-start
-slice_bounds-heights-start c =
-    start_of (goal.at.slice_bounds-heights-start c).After-cells_end-at
+slice_bounds-heights-start c = start_of c
 
 pub weighted-requires : goal.weighted-requires
 weighted-requires c =

@@ -14,7 +14,6 @@ loop-k-init c = (search rules, search rules, widened_none _ _)
 pub join_places-e-requires : goal.join_places-e-requires
 join_places-e-requires c =
     let l = c.loop-k in
-    let p = (c.requires.reached, c.requires.n_in_bounds) in
     λ j h. omega (arith, c.requires.reached j h, l.invariant.1)
 
 pub loop-k-preserved : goal.loop-k-preserved

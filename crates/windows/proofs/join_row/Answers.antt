@@ -12,7 +12,7 @@ returns c =
     let a = c.args in
     let g = c.gather in record {
       t_after = row_joined a.grows a.b.now _ a.at.now a.t.now _ (blocks_of (length a.t.now))
-          (λ i. let f = (goal.at.returns c).After-slice_known-1.slice_known-1.given i in omega arith) (omega arith) c.requires.t_in_bounds g.ensures
+          (λ i. let f = c.slice_known-1.given i in omega arith) (omega arith) c.requires.t_in_bounds g.ensures
           c.join_bytes.ensures;
       b_after = g.ensures;
     }

@@ -40,11 +40,10 @@ known : (c : Then-is_done) → let a = c.args in
 known c = let a = c.args in
     work_taken a.descriptor.now a.file.now a.source.now
     a.result.now a.scratch.now a.text.now
-    (ap is_done (sym (answered c.before.before)) ∙ done c)
+    (ap is_done (sym (answered (goal.at.Then-is_done c).After-refusal-no)) ∙ done c)
 
 pub element_at-e-requires : goal.element_at-e-requires
-element_at-e-requires c =
-    made_cells _ (known (goal.at.element_at-e-requires c).Then-is_done).0
+element_at-e-requires c = made_cells _ (known c).0
 
 pub work_out-n-requires : goal.work_out-n-requires
 work_out-n-requires c =

@@ -50,25 +50,25 @@ flat_twice-requires-in-Close c =
 pub returns-in-Erode : goal.returns-in-Erode
 unfolding operated middle_in
 returns-in-Erode c =
-    found (goal.at.returns-in-Erode c).Start _ _ Erode
+    found c.before.before.before.before.before.before.before.before.before.before.before _ _ Erode
     c.in-Erode.is (c.flat.ensures, refl)
 
 pub returns-in-Dilate : goal.returns-in-Dilate
 unfolding operated middle_in
 returns-in-Dilate c =
-    found (goal.at.returns-in-Dilate c).Start _ _ Dilate
+    found c.before.before.before.before.before.before.before.before.before.before.before _ _ Dilate
     c.in-Dilate.is (c.flat-in-Dilate.ensures, refl)
 
 pub returns-in-Open : goal.returns-in-Open
 unfolding operated middle_in
 returns-in-Open c =
-    found (goal.at.returns-in-Open c).Start
+    found c.before.before.before.before.before.before.before.before.before.before.before.before.before.before
     _ _ Open c.in-Open.is
     (c.flat_twice.ensures.bytes, c.flat_twice.ensures.middle)
 
 pub returns-in-Close : goal.returns-in-Close
 unfolding operated middle_in
 returns-in-Close c =
-    found (goal.at.returns-in-Close c).Start
+    found c.before.before.before.before.before.before.before.before.before.before.before.before.before.before
     _ _ Close c.in-Close.is
     (c.flat_twice-in-Close.ensures.bytes, c.flat_twice-in-Close.ensures.middle)

@@ -6,32 +6,32 @@ use Rattle.work.specs.Work.{longest}
 use Rattle.ech.proofs.Reading.{target_held}
 use Rattle.answer.specs.Answer.{told, is_done}
 use mathlib.Core.Bool.{true}
+use mathlib.Core.List.{[]}
 use mathlib.Core.Path.{◌≡◌, sym, ◌∙◌}
-use borrow.Author.Tests.{not-true, not-false}
 use Rattle.work.proofs.refusal.Goals as goal
 use Rattle.work.proofs.refusal.Goals.{After-most_len, Else-not-is_done, Else-not-is_done-2}
 
 shape_done : (c : Else-not-is_done) → is_done (told c.args.shape) ≡ true
-shape_done c = sym c.is_done.ensures ∙ not-false _ c.if-not-is_done.false
+shape_done c = sym c.is_done.ensures ∙ c.if-not-is_done.false
 
 file_done : (c : Else-not-is_done-2) → is_done (told c.judge_ech-head.result.answer) ≡ true
-file_done c = sym c.is_done-2.ensures ∙ not-false _ c.if-not-is_done-2.false
+file_done c = sym c.is_done-2.ensures ∙ c.if-not-is_done-2.false
 
 long : (c : After-most_len)
     → c.most_len.result
     ≡ longest c.args.file.now
 long c = longest_own _ _ _ c.judge_ech-head.ensures
-    (file_done c.before.before) _ _ c.depth_of-depth.ensures c.most_len.ensures
+    (file_done (goal.at.After-most_len c).Else-not-is_done-2) _ _ c.depth_of-depth.ensures c.most_len.ensures
 
 pub returns-then-not-is_done : goal.returns-then-not-is_done
 returns-then-not-is_done c =
-    refused_shape _ _ _ _ (sym c.is_done.ensures ∙ not-true _ c.if-not-is_done.true)
+    refused_shape _ _ _ _ (sym c.is_done.ensures ∙ c.if-not-is_done.true)
 
 pub returns-then-not-is_done-2 : goal.returns-then-not-is_done-2
 returns-then-not-is_done-2 c =
     refused_file _ _ _ _ (shape_done (goal.at.returns-then-not-is_done-2 c).Else-not-is_done) _
     c.judge_ech-head.ensures.answer
-    (sym c.is_done-2.ensures ∙ not-true _ c.if-not-is_done-2.true)
+    (sym c.is_done-2.ensures ∙ c.if-not-is_done-2.true)
 
 pub most_len-requires : goal.most_len-requires
 most_len-requires c =

@@ -16,8 +16,7 @@ lent : (c : After-picture_bytes-n) → let a = c.args in
     a.text.now c.read_ech-head.result
     c.depth_of-depth.result
     c.read_ech-head.new.target c.picture_bytes-n.result
-lent c = let g = (c.read_ech-head.ensures.given_back, c.read_ech-head.ensures.target_after) in
-    record {
+lent c = record {
       bytes = λ i. omega (
         arith,
         c.type_inv.file i,
