@@ -37,6 +37,7 @@ machine_fits a b ha hb =
           (omega arith) (omega arith));
     }
 
-pub machine_result : (a b : ℕ) → a < 256 → b < 256 → to_z w32 (of_z w32 (to_z w32 a -ℤ to_z w32 b)) ≡ sub_ℕ a b
+pub machine_result : (a b : ℕ) → a < 256 → b < 256 → to_z w32 (of_z w32 (to_z w32 a -ℤ to_z w32 b))
+    ≡ sub_ℕ a b
 machine_result a b ha hb =
     to_z-of_z w32 (to_z w32 a -ℤ to_z w32 b) (machine_fits a b ha hb) ∙ machine_sub a b ha hb

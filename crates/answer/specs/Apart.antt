@@ -18,7 +18,12 @@ coordinate b = sub_ℕ (bit_xor b centre) centre
 -- qik_number, qik_dx and qik_dy
 unfoldable pub apart : ℕ → Told
 apart n =
-    record { number = bit_and n (2 ^ 8 - 1); dx = coordinate (byte_from 8 n); dy = coordinate (byte_from 16 n) }
+    record {
+      number = bit_and n (2 ^ 8 - 1);
+      dx = coordinate (byte_from 8 n);
+      dy =
+          coordinate (byte_from 16 n);
+    }
 
 -- a split holds two bytes
 abbrev pub OfBytes : Answer → Type 0

@@ -43,7 +43,8 @@ module _ (f : ℕ → ℕ → ℕ) where
 
   -- one more byte is kept: by a store, or because the byte is right as it is
   module _ (l bs acc : List ℕ) (i : ℕ) (h : i < length bs) (so : acc ≡ zip_in f l (take i bs)) where
-    pub zip_store : (v : ℕ) → v ≡ f (get_or acc i 0) (get_or bs i 0) → set acc i v ≡ zip_in f l (take (i + 1) bs)
+    pub zip_store : (v : ℕ) → v ≡ f (get_or acc i 0) (get_or bs i 0) → set acc i v
+        ≡ zip_in f l (take (i + 1) bs)
     zip_store v e =
         ap (λ v. set acc i v) (e ∙ ap (λ n. f n (get_or bs i 0)) (ap (λ t. get_or t i 0) so ∙ zip_at l bs i))
         ∙ ap (λ t. set t i (f (get_or l i 0) (get_or bs i 0))) so

@@ -120,8 +120,10 @@ module _ (grows : Bool) (s : List ℕ) (w base : ℕ) (bytes : Bytes s) (some : 
           (ap (λ j. get_or (copied_in grows (base + 8) s) j 0) mine_last
           ∙ copied_same (8 + length s - 1) (omega (arith, len)))
           ∙ sym (ap (λ j. get_or (set (copied_of false grows s) (8 + length s - 1)
-          (blotted_by grows (get_or (copied_of false grows s) (8 + length s - 1) 0) (spare_of (w % 8)))) j 0) e
-          ∙ get_or-set_same (copied_of false grows s) (8 + length s - 1) _ 0 (omega (arith, theirs_copied, len)))
+          (blotted_by grows (get_or (copied_of false grows s) (8 + length s - 1) 0) (spare_of (w % 8)))) j 0)
+          e
+          ∙ get_or-set_same (copied_of false grows s) (8 + length s - 1) _ 0
+          (omega (arith, theirs_copied, len)))
 
       other : (i ≡ 8 + length s - 1 → ⊥)
           → get_or (set (copied_in grows (base + 8) s) (base + 8 + length s - 1)

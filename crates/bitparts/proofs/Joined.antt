@@ -99,7 +99,8 @@ module _ (grows : Bool) (s : List ℕ) (w h : ℕ) (o : Outline) (words : List �
     new_here x l =
         row_of x l ∙ ap (λ r. point_of r x) made
         ∙ row_point_lem grows b (take count at) old bytes x (omega (arith, old_len))
-        ∙ ap₂ (λ a n. fold (join_by grows) a (λ j. point_of b (x + get_or (take count at) j 0)) n) (old_at x l)
+        ∙ ap₂ (λ a n. fold (join_by grows) a (λ j. point_of b (x + get_or (take count at) j 0)) n)
+        (old_at x l)
         (length-take-le count at (omega (arith, strokes.few, strokes.long)))
         ∙ fold_same (join_by grows) (value_at OneBit t w x y) _ _ count
         (λ j hj. ap (λ p. point_of b (x + p)) (get_or-take count at j 0 hj))
@@ -123,7 +124,8 @@ module _ (grows : Bool) (s : List ℕ) (w h : ℕ) (o : Outline) (words : List �
         → PartOf OneBit grows s w h o words k v (n + 1) new
     bits_join p =
         part_join grows 1 (value_at OneBit s w) w h o words k v n y (value_at OneBit t w)
-        (value_at OneBit new w) hv hy hn wide column ey kind (8 * made_of blocks) count word (point_of b) at long
+        (value_at OneBit new w) hv hy hn wide column ey kind (8 * made_of blocks) count word (point_of b) at
+        long
         (rooms_same grows k (8 * made_of blocks) _ _ (point_of b)
         (pad_same grows 1 w w (point_of (row_in m s v)) (λ x. value_at OneBit s w x v) refl row_value) rooms)
         is_IsWord strokes new_here new_else p

@@ -57,7 +57,8 @@ module _ (grows : Bool) where
       (λ i h. two_bits x y y i ∙ join_twice grows (bit x i) (bit y i) ∙ sym (bit_join grows x y i))
 
   -- all places once more
-  pub all_again : (b at : List ℕ) (v m : ℕ) → at_all grows b at (at_all grows b at v m) m ≡ at_all grows b at v m
+  pub all_again : (b at : List ℕ) (v m : ℕ) → at_all grows b at (at_all grows b at v m) m
+      ≡ at_all grows b at v m
   unfolding byte_joined
   all_again b at v m =
       fold_again (join_packed grows) swapped twice (λ j. eight_at b m (get_or at j 0)) v (length at)

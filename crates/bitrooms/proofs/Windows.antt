@@ -96,7 +96,8 @@ module _ (grows : Bool) (from to n d e f : ℕ) (b : List ℕ) where
         eight : ℕ → ℕ → ℕ
         eight x y = shifted_of x y (q % 8)
 
-    same_four : (p : ℕ) → from ≤ p → p < from + made_of n → four_bits grows u d e f p ≡ four_bits grows b d e f p
+    same_four : (p : ℕ) → from ≤ p → p < from + made_of n → four_bits grows u d e f p
+        ≡ four_bits grows b d e f p
     unfolding four_bits
     same_four p h l =
         ap₂ (join_packed grows)
@@ -154,7 +155,8 @@ module _ (grows : Bool) (b : List ℕ) (bytes : Bytes b) (d e f : ℕ) where
     -- point x of the windows is made of points of the other room
     pub widened_point : (x : ℕ) → x < 8 * made_of n
         → point_of (bits_widened grows from to n d e f b) (8 * to + x)
-        ≡ join_by grows (join_by grows (join_by grows (point_of b (8 * from + x)) (point_of b (8 * from + x + d)))
+        ≡ join_by grows (join_by grows
+        (join_by grows (point_of b (8 * from + x)) (point_of b (8 * from + x + d)))
         (point_of b (8 * from + x + e))) (point_of b (8 * from + x + f))
     unfolding bits_widened
     widened_point x h =

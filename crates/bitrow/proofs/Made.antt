@@ -54,7 +54,8 @@ module _ (f : ℕ → ℕ) (w : ℕ) (t u : List ℕ) (some : 1 ≤ w) (len : le
       ⊎_elim
       (λ z. other x (λ q. absurd (omega (arith, len))))
       (λ z. last x (omega (arith, len))
-      ∙ blotted_clear true (get_or t (x / 8) 0) (spare_of (w % 8)) (7 - x % 8) (spare_lt (w % 8)) (omega arith)
+      ∙ blotted_clear true (get_or t (x / 8) 0) (spare_of (w % 8)) (7 - x % 8) (spare_lt (w % 8))
+      (omega arith)
       (spare_clear w x l (omega (arith, len))))
       (below_or_not (x / 8) (length t - 1))
 

@@ -85,7 +85,8 @@ eight_point l bytes i d k hd hk =
 pub eight_none : (l : List ℕ) → Bytes l → (i : ℕ) → (k : ℕ) → k < 8 → bit (get_or l i 0) (7 - k)
     ≡ point_of l (i * 8 + k)
 unfolding point_of
-eight_none l bytes i k h = ap₂ (λ m n. bit (get_or l m 0) (7 - n)) (sym (digits_div i h)) (sym (digits_mod i h))
+eight_none l bytes i k h =
+    ap₂ (λ m n. bit (get_or l m 0) (7 - n)) (sym (digits_div i h)) (sym (digits_mod i h))
 
 pub point_lt : (l : List ℕ) (x : ℕ) → point_of l x < 2
 unfolding point_of

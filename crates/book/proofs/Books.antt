@@ -41,7 +41,8 @@ module _ (a k : ℕ) (b s : List ℕ) (fits : a + k ≤ length b) (e : length s 
   mid_put_before : (c j : ℕ) → c + j ≤ a → mid_of c j (put_mid a k b s) ≡ mid_of c j b
   mid_put_before c j h =
       let l = put_length a k b s fits e in
-      mid_same c j (put_mid a k b s) b l (omega arith) (λ i q. put_before a k b s fits e (c + i) (omega arith))
+      mid_same c j (put_mid a k b s) b l (omega arith)
+      (λ i q. put_before a k b s fits e (c + i) (omega arith))
 
   mid_put_after : (c j : ℕ) → a + k ≤ c → c + j ≤ length b → mid_of c j (put_mid a k b s) ≡ mid_of c j b
   mid_put_after c j h g =
@@ -158,7 +159,8 @@ with_kept b ms k p c s h =
       each = λ q. by p q h;
     }
   where
-    own : (q : Party) (m : Map) → Holds numbers room s m → Holds numbers room (share_of (with_share b q s) q) m
+    own : (q : Party) (m : Map) → Holds numbers room s m
+        → Holds numbers room (share_of (with_share b q s) q) m
     own q m g =
         subst (λ (l : List ℕ). Holds numbers room l m) (sym (with_same b k.long q s g.long)) g
 
@@ -187,7 +189,8 @@ marked_head l = refl
 
 zero_in : (n : ℕ) (l : List ℕ) (i : ℕ) → i < n
     → get_or ((69 ∷ 66 ∷ 75 ∷ version ∷ []) ++ (replicate n 0 ++ l)) (4 + i) 0 ≡ 0
-zero_in n l i h = get_or-append-add (69 ∷ 66 ∷ 75 ∷ version ∷ []) (replicate n 0 ++ l) i 0 ∙ get_d_zeros n l i h
+zero_in n l i h = get_or-append-add (69 ∷ 66 ∷ 75 ∷ version ∷ []) (replicate n 0 ++ l) i 0
+    ∙ get_d_zeros n l i h
 
 long_in : (n : ℕ) (l : List ℕ)
     → length ((69 ∷ 66 ∷ 75 ∷ version ∷ []) ++ (replicate n 0 ++ l)) ≡ 4 + n + length l

@@ -55,7 +55,13 @@ module _ (b : List ℕ) (made : book_made b ≡ true) where
 
   share_whole : (p : Party) → Whole numbers room (share_of b p)
   share_whole p =
-      record { few = omega arith; short = omega arith; long = share_long_lem p b made_long; made = made_share p }
+      record {
+        few = omega arith;
+        short = omega arith;
+        long = share_long_lem p b made_long;
+        made =
+            made_share p;
+      }
 
 -- ---- the share as the part from `at` on, as many bytes as it has
 module _ (b : List ℕ) (p : Party) (at : ℕ) (e : at ≡ share_at p) where
@@ -86,7 +92,8 @@ module _ (b : List ℕ) (p : Party) (at : ℕ) (e : at ≡ share_at p) where
     pub call_after : (c : Call) (x : List ℕ) → x ≡ share_after numbers room part c
         → put_mid at (at + share_long - at) b x ≡ book_after b p c
     call_after c x q =
-        ap (put_mid at (at + share_long - at) b) (q ∙ ap (λ (s : List ℕ). share_after numbers room s c) part_is)
+        ap (put_mid at (at + share_long - at) b)
+        (q ∙ ap (λ (s : List ℕ). share_after numbers room s c) part_is)
         ∙ placed (share_after numbers room (share_of b p) c)
         ∙ sym (after_made b made p c)
 
@@ -240,7 +247,8 @@ module _ (b : List ℕ) (p : Party) (n : ℕ) (done : is_done (book_answer b p (
       ≡ book_handed b p (Get n)
   unfolding held_at share_of
   got_part =
-      sym (part_of_part (share_at p) share_long (place_of numbers (share_of b p) n) (length_at (share_of b p) n) b
+      sym (part_of_part (share_at p) share_long (place_of numbers (share_of b p) n)
+      (length_at (share_of b p) n) b
       in_share)
       ∙ sym (handed_held b p n done)
 

@@ -24,7 +24,8 @@ module _ (l : List ℕ) where
   unfolding marked
   mark_third a b h = simp (eq-eqb (get_or l 0 0) 69 a, eq-eqb (get_or l 1 0) 66 b, ne_eqb (get_or l 2 0) 75 h)
 
-  pub mark_last : get_or l 0 0 ≡ 69 → get_or l 1 0 ≡ 66 → get_or l 2 0 ≡ 75 → eqb (get_or l 3 0) version ≡ marked l
+  pub mark_last : get_or l 0 0 ≡ 69 → get_or l 1 0 ≡ 66 → get_or l 2 0 ≡ 75 → eqb (get_or l 3 0) version
+      ≡ marked l
   unfolding marked
   mark_last a b c = simp (eq-eqb (get_or l 0 0) 69 a, eq-eqb (get_or l 1 0) 66 b, eq-eqb (get_or l 2 0) 75 c)
 
@@ -63,7 +64,8 @@ old_breaks b h =
     && (eqb (get_or b 0 0) 69 && eqb (get_or b 1 0) 66 && eqb (get_or b 2 0) 75 && t)
     && share_made numbers room (share_of b Display) && share_made numbers room (share_of b Export))
     (ne_eqb (get_or b 3 0) version h)
-    ∙ no_mark (leb book_long (length b)) (eqb (get_or b 0 0) 69 && eqb (get_or b 1 0) 66 && eqb (get_or b 2 0) 75)
+    ∙ no_mark (leb book_long (length b))
+    (eqb (get_or b 0 0) 69 && eqb (get_or b 1 0) 66 && eqb (get_or b 2 0) 75)
     (share_made numbers room (share_of b Display)) (share_made numbers room (share_of b Export))
   where
     no_mark : (x y z w : Bool) → x && (y && false) && z && w ≡ false

@@ -28,7 +28,8 @@ own_share b p c = by (book_made b) refl
     by : (t : Bool) → book_made b ≡ t → book_after b p c ≡ with_share b p (share_of (book_after b p c) p)
     by true e =
         let s = share_after numbers room (share_of b p) c in
-        let h = made_holds numbers room (share_of b p) (share_long_lem p b (made_long b e)) (made_share b e p) in
+        let h = made_holds numbers room (share_of b p) (share_long_lem p b (made_long b e))
+        (made_share b e p) in
         let l = (after_holds numbers room (share_of b p) (map_in b p) c h).long in
         let q = after_made b e p c in
         q ∙ ap (with_share b p) (sym (ap (λ l. share_of l p) q ∙ with_same b (made_long b e) p s l))

@@ -1,6 +1,7 @@
 -- Document 02, (vi) and (vii): the book of two parties, and each call of it, for all bytes.
 -- Bytes 0 to 3 are the letters EBK and the version; then the share of the display, then that of the export.
-use Rattle.std.specs.Prelude.{ℕ, ◌+◌, ◌*◌, ◌≡◌, Bool, cond, not, ◌&&◌, List, [], ◌∷◌, ◌++◌, leb, ltb, eqb, length, get_or, take, drop, replicate}
+use Rattle.std.specs.Prelude.{ℕ, ◌+◌, ◌*◌, ◌≡◌, Bool, cond, not, ◌&&◌, List, [], ◌∷◌, ◌++◌, leb, ltb, eqb}
+use Rattle.std.specs.Prelude.{length, get_or, take, drop, replicate}
 use Rattle.answer.specs.declared.Told.{Told}
 use Rattle.answer.specs.Answer.{plain, told, is_done}
 use Rattle.answer.specs.Refuse.{Test, refuse}
@@ -43,7 +44,8 @@ with_share b p s = take (share_at p) b ++ (s ++ drop share_long (drop (share_at 
 
 -- the written layout
 unfoldable pub marked : List ℕ → Bool
-marked b = eqb (get_or b 0 0) 69 && eqb (get_or b 1 0) 66 && eqb (get_or b 2 0) 75 && eqb (get_or b 3 0) version
+marked b = eqb (get_or b 0 0) 69 && eqb (get_or b 1 0) 66 && eqb (get_or b 2 0) 75
+    && eqb (get_or b 3 0) version
 
 unfoldable pub book_made : List ℕ → Bool
 book_made b =

@@ -42,7 +42,8 @@ pub side_few : (packed : Bool) → side_of packed ≤ 64
 side_few true = omega arith
 side_few false = omega arith
 
-pub margins_long : (packed grows : Bool) (n : ℕ) (b : List ℕ) → length (margins_of packed grows n b) ≡ length b
+pub margins_long : (packed grows : Bool) (n : ℕ) (b : List ℕ) → length (margins_of packed grows n b)
+    ≡ length b
 unfolding margins_of
 margins_long packed grows n b = length_laid (side_of packed + n) 64 _ _ ∙ length_laid 0 64 _ b
 
@@ -68,7 +69,8 @@ padded_made packed grows n m b ys room same em =
     c = laid (side_of packed + n) 64 (λ i. start_by grows 255) (laid 0 64 (λ i. start_by grows 255) b)
 
     fits : side_of packed + m
-        ≤ length (laid (side_of packed + n) 64 (λ i. start_by grows 255) (laid 0 64 (λ i. start_by grows 255) b))
+        ≤ length (laid (side_of packed + n) 64 (λ i. start_by grows 255)
+        (laid 0 64 (λ i. start_by grows 255) b))
     fits = omega (
       arith,
       length_laid (side_of packed + n) 64 (λ i. start_by grows 255)
@@ -78,11 +80,13 @@ padded_made packed grows n m b ys room same em =
 
     at_front : (i : ℕ) → i < side_of packed
         → get_or (put_mid (side_of packed) m
-        (laid (side_of packed + n) 64 (λ i. start_by grows 255) (laid 0 64 (λ i. start_by grows 255) b)) ys) i 0
+        (laid (side_of packed + n) 64 (λ i. start_by grows 255) (laid 0 64 (λ i. start_by grows 255) b)) ys)
+        i 0
         ≡ start_by grows 255
     at_front i h =
         put_before (side_of packed) m _ ys fits (same ∙ sym em) i h
-        ∙ get_before (side_of packed + n) 64 (λ i. start_by grows 255) (laid 0 64 (λ i. start_by grows 255) b) i
+        ∙ get_before (side_of packed + n) 64 (λ i. start_by grows 255)
+        (laid 0 64 (λ i. start_by grows 255) b) i
         (omega (arith, length_laid 0 64 (λ i. start_by grows 255) b)) (omega arith)
         ∙ get_first 64 (λ i. start_by grows 255) b i (omega arith) (omega (arith, side_few packed))
 
@@ -95,7 +99,8 @@ unfolding margins_of
 margins_made packed grows n v side c b₀ b₁ b₂ ec ev es room e₁ e₂ =
     e₂ ∙ ap₂ (λ a b. laid (a + n) 64 (λ i. get_or c i 0) b) es e₁
     ∙ ap (laid (side_of packed + n) 64 (λ i. get_or c i 0)) (laid_same 0 64 _ _ b₀ (omega arith) all)
-    ∙ laid_same (side_of packed + n) 64 _ _ _ (omega (arith, length_laid 0 64 (λ i. start_by grows 255) b₀)) all
+    ∙ laid_same (side_of packed + n) 64 _ _ _ (omega (arith, length_laid 0 64 (λ i. start_by grows 255) b₀))
+    all
   where
     all : (i : ℕ) → i < 64 → get_or c i 0 ≡ start_by grows 255
     all i h = ap (λ l. get_or l i 0) ec ∙ get_or-replicate 64 i v 0 h ∙ ev

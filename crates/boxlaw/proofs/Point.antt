@@ -51,7 +51,8 @@ module _ (packed grows : Bool) (s : List ℕ) (w h : ℕ) (o : Outline) (x y lo 
   abbrev value : ℕ → ℕ
   value a =
       value_in (depth_if packed)
-      (also_at packed grows s (row_bytes (depth_if packed) w) lo count row (column_byte (depth_if packed) a)) a
+      (also_at packed grows s (row_bytes (depth_if packed) w) lo count row (column_byte (depth_if packed) a))
+      a
 
   abbrev before : ℕ
   before = before_of grows o.origin.ping.0 o.w
@@ -112,7 +113,8 @@ module _ (packed grows : Bool) (s : List ℕ) (w h : ℕ) (o : Outline) (x y lo 
       where
         also_most' : (g : Bool) → g ≡ false
             → value_in (depth_if packed)
-            (also_at packed g s (row_bytes (depth_if packed) w) lo count row (column_byte (depth_if packed) x))
+            (also_at packed g s (row_bytes (depth_if packed) w) lo count row
+            (column_byte (depth_if packed) x))
             x ≤ most
         also_most' true e = let z : ◌≡◌ {A = ℕ} 1 0 = ap (λ b. cond b 1 0) e in absurd (omega arith)
         also_most' false e = also_most packed s w lo count row x

@@ -27,7 +27,8 @@ use Rattle.columns.specs.Steps.Down.{also_at}
 use Rattle.joins.specs.Steps.Joins.{depth_if}
 use Rattle.bytewindows.specs.Steps.Four.{byte_windows}
 use Rattle.bytewindows.proofs.Seen.{byte_of, sees_to, run_of, window_run}
-use Rattle.boxrow.specs.Steps.Along.{before_of, room_of, four_at, blotted_row, bits_along, bytes_along, along_at}
+use Rattle.boxrow.specs.Steps.Along.{before_of, room_of, four_at, blotted_row, bits_along, bytes_along}
+use Rattle.boxrow.specs.Steps.Along.{along_at}
 use Rattle.boxrow.proofs.Widths.{before_lt, Which, size_facts}
 use Rattle.boxrow.proofs.Runs.{blotted_bytes}
 use Rattle.boxseen.proofs.Seen.{Sees}
@@ -96,7 +97,8 @@ module _ (grows : Bool) (s : List ℕ) (w h : ℕ) (o : Outline) (x y lo count r
   bit_point long bytes pad ey =
       four_run grows (point_of (windows_of grows (((w + 7) / 8 + 81) / 64) m (blotted_row grows w b))) from m
       (o.w - m) x
-      ∙ point_is true grows s w h o x y lo count row column bin few hx seen (point_of (blotted_row grows w b)) _
+      ∙ point_is true grows s w h o x y lo count row column bin few hx seen
+      (point_of (blotted_row grows w b)) _
       (record {
         front = p.front;
         inside = λ a ha. p.inside a ha ∙ ap (λ v. bit v (7 - a % 8))

@@ -10,7 +10,8 @@ use Rattle.basics.specs.Lists.{firsts}
 use Rattle.basics.proofs.Lists.{list_is, length_firsts}
 use Rattle.basics.proofs.SliceParts.{below_or_not, put_before, put_within, put_after, put_length}
 
-lists_same : (u v : List ℕ) → length u ≡ length v → ((i : ℕ) → i < length u → get_or u i 0 ≡ get_or v i 0) → u ≡ v
+lists_same : (u v : List ℕ) → length u ≡ length v → ((i : ℕ) → i < length u → get_or u i 0 ≡ get_or v i 0)
+    → u ≡ v
 lists_same u v e each =
     list_is (λ i. get_or v i 0) (length u) u refl each
     ∙ sym (list_is (λ i. get_or v i 0) (length u) v (sym e) (λ i h. refl))
@@ -27,8 +28,10 @@ put_again a k t Z Y fits e_z e_y =
     (λ l. ⊎_elim
     (λ m. ap (λ j. get_or (put_mid a k u Y) j 0) (on a i l)
     ∙ put_within a k u Y fitu e_y (i - a) (omega arith)
-    ∙ sym (ap (λ j. get_or (put_mid a k t Y) j 0) (on a i l) ∙ put_within a k t Y fits e_y (i - a) (omega arith)))
-    (λ m. put_after a k u Y fitu e_y i m ∙ put_after a k t Z fits e_z i m ∙ sym (put_after a k t Y fits e_y i m))
+    ∙ sym (ap (λ j. get_or (put_mid a k t Y) j 0) (on a i l)
+    ∙ put_within a k t Y fits e_y (i - a) (omega arith)))
+    (λ m. put_after a k u Y fitu e_y i m ∙ put_after a k t Z fits e_z i m
+    ∙ sym (put_after a k t Y fits e_y i m))
     (below_or_not i (a + k)))
     (below_or_not i a))
   where

@@ -16,7 +16,7 @@ use Rattle.picture.specs.Bytes.{row_of, written}
 use Rattle.picture.proofs.Rows.{row_length}
 use Rattle.picture.proofs.Sizes.{row_room}
 use Rattle.element.specs.declared.Outline.{Outline}
-use Rattle.rows.proofs.Written.{rows_written, written_more, written_all}
+use Rattle.rows.proofs.Written.{row_fits, rows_written, written_more, written_all}
 use Rattle.joins.specs.Steps.Joins.{depth_if}
 use Rattle.columns.specs.Steps.Down.{also_at}
 use Rattle.boxrow.specs.Steps.Along.{before_of, room_of, along_at}
@@ -27,7 +27,7 @@ use Rattle.boxlaw.specs.Steps.Box.{boxed, box_row}
 use Rattle.boxpair.specs.Steps.Fit.{BoxFit}
 use Rattle.boxlaw.specs.Steps.Padded.{side_of, margins_of}
 use Rattle.boxpair.specs.Steps.Put.{put_row, padded_by}
-use Rattle.boxlaw.proofs.Padded.{room_for, margins_long, padded_made}
+use Rattle.boxlaw.proofs.Padded.{room_for, row_long, margins_long, padded_made}
 use Rattle.boxlaw.proofs.Row.{row_is}
 use Rattle.boxpair.proofs.Put.{put_again, put_next, put_two}
 
@@ -45,6 +45,19 @@ lead_ready ns n₁ n₂ n k h o high y z e₁ e₂ ek source bins few l up next 
       next = next;
       row = row;
     }
+
+-- once the sizes are known: a row lies in the target, and the padded row in its room
+module _ {packed : Bool} {ns nt nb w h : ℕ} {o : Outline} (fit : BoxFit packed ns nt nb w h o) {n : ℕ}
+    (en : n ≡ row_bytes (depth_if packed) w) where
+  pub row_in : (y : ℕ) → y < h → y * n + n ≤ nt
+  row_in y l = row_fits _ _ y h _ en l fit.target
+
+  pub room_in : {side : ℕ} → side ≡ side_of packed → side + n + 64 ≤ nb
+  room_in es =
+      subst (λ m. m + n + 64 ≤ nb) (sym es) (omega (arith, en, room_for packed w fit.few_pings, fit.room))
+
+  pub few_in : n ≤ 1024
+  few_in = omega (arith, en, row_long packed w fit.few_pings)
 
 -- the padded row as the code makes it
 pub padded_as : (packed grows : Bool) (n k side : ℕ) (b m row same : List ℕ) → n ≡ k → side ≡ side_of packed

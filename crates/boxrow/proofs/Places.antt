@@ -51,7 +51,8 @@ module _ (packed grows : Bool) (w o wide m f d e : ℕ) (em : m ≡ window_of wi
 
   abbrev row_at : Bool → List ℕ → ℕ → ℕ → ℕ → ℕ → List ℕ
   row_at packed b m f d e =
-      row_of (depth_if packed) (cond packed bits_along bytes_along grows w m (64 - f) (64 - f + d) (64 - f + e)
+      row_of (depth_if packed)
+      (cond packed bits_along bytes_along grows w m (64 - f) (64 - f + d) (64 - f + e)
       (64 - f + (wide - m)) b) w
 
   abbrev rest_at : Bool → List ℕ → ℕ → ℕ → ℕ → ℕ → List ℕ

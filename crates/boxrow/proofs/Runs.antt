@@ -37,7 +37,8 @@ unfolding row_of row_byte bytes_along four_at joined_four
 bytes_row grows w m p q r s n b v u en ev eu =
     eu ∙ ap₂ (λ v n. firsts (λ i. joined_four grows v (p + i) (q + i) (r + i) (s + i)) n) ev en
 
-pub bytes_left_lem : (grows : Bool) (w m p q r s : ℕ) (b v : List ℕ) → v ≡ byte_windows grows ((w + 187) / 64) m b
+pub bytes_left_lem : (grows : Bool) (w m p q r s : ℕ) (b v : List ℕ) → v
+    ≡ byte_windows grows ((w + 187) / 64) m b
     → v ≡ bytes_left grows w m p q r s b
 unfolding bytes_left
 bytes_left_lem grows w m p q r s b v ev = ev

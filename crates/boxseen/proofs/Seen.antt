@@ -80,7 +80,8 @@ module _ (packed grows : Bool) (s : List ℕ) (w lo : ℕ) where
   -- the joined value is bounded exactly where each of the rows is
   module _ (count row x v : ℕ) where
     abbrev value : ℕ
-    value = value_in (depth_if packed) (also_at packed grows s n lo count row (column_byte (depth_if packed) x)) x
+    value = value_in (depth_if packed)
+        (also_at packed grows s n lo count row (column_byte (depth_if packed) x)) x
 
     pub also_to : Bound grows value v → (b : ℕ) → (b ≡ row) ⊎ ((lo ≤ b) × (b < lo + count)) → Bound grows
         (A x b) v
@@ -123,7 +124,8 @@ also_most packed s w lo count row x =
 
 -- ---- what row y sees, and what row z sees
 module _ (above high h y z : ℕ) (l : above < high) (up : y ≤ z) (next : z ≤ y + 1) (hz : z < h) where
-  pub sees_first : Sees h y above high (shared_from above z) (shared_count above high h y z) (first_row above y)
+  pub sees_first : Sees h y above high (shared_from above z) (shared_count above high h y z)
+      (first_row above y)
   sees_first =
       record {
         all = λ b hb p q. in_first_lem above high h y z b l up next hz hb p q;

@@ -85,7 +85,8 @@ module _ (ns n nz h o high y z above lo end last first : ℕ) (grows : Bool) (fi
   lead_lower packed s u e =
       e ∙ firsts_same _ _ n (λ i l.
       also_own packed grows s n (h * n) lo (end - lo) last i own_fit.common own_fit.other l
-      ∙ ap (λ a. also_at packed grows s n lo (end - lo) a i) (et ∙ ap (λ a. min (z + high - a - 1) (h - 1)) ea)
+      ∙ ap (λ a. also_at packed grows s n lo (end - lo) a i)
+      (et ∙ ap (λ a. min (z + high - a - 1) (h - 1)) ea)
       ∙ ap₂ (λ a b. also_at packed grows s n a b (min (z + high - before_of grows o high - 1) (h - 1)) i)
       (el ∙ ap (λ a. z - a) ea)
       (ap₂ (λ a b. a - b) ee el ∙ ap (λ a. min (y + high - a) h - (z - a)) ea))

@@ -80,7 +80,8 @@ module _ (grows : Bool) (s : List ℕ) (n : ℕ) (few : length s ≤ 1024) (bloc
   pub runs_filled : (u v x : List ℕ) → length u ≡ 2464
       → u ≡ laid (room + 64) (length s) (λ i. faced_byte false (get_or s i 0)) (replicate 2464
       (start_by grows 255))
-      → v ≡ widened_to grows room 0 n 1 2 3 u → x ≡ widened_to grows 0 room n 4 8 12 v → ByteRooms grows 1 s n x
+      → v ≡ widened_to grows room 0 n 1 2 3 u → x ≡ widened_to grows 0 room n 4 8 12 v
+      → ByteRooms grows 1 s n x
   unfolding widened_to four_at
   runs_filled u v x lu eu ev ex =
       runs_rooms grows (P grows s) (λ i. get_or u i 0) (λ i. get_or v i 0) (64 * n) (λ i. get_or x i 0)

@@ -52,7 +52,8 @@ module _ (grows : Bool) (s : List ℕ) (w h : ℕ) (o : Outline) (words : List �
       (source : h * w ≤ length s)
       (ey : y ≡ source_row (not grows) h v o.origin.bin.0 n) (kind : kind_at o words n ≡ k)
       (blocks count word : ℕ) (b at u : List ℕ) (long : w + 139 ≤ 64 * blocks)
-      (rooms : ByteRooms grows k (row_in w s v) blocks b) (is_IsWord : word ≡ masked_of (get_or words n 0) o.w)
+      (rooms : ByteRooms grows k (row_in w s v) blocks b)
+      (is_IsWord : word ≡ masked_of (get_or words n 0) o.w)
       (strokes : Strokes grows word o.origin.ping.0 k count at)
       (made : u ≡ joined_row grows b (take count at) (mid_of (y * w) (y * w + w - y * w) t)) where
     abbrev old : List ℕ
@@ -84,7 +85,8 @@ module _ (grows : Bool) (s : List ℕ) (w h : ℕ) (o : Outline) (words : List �
         put_within (y * w) (y * w + w - y * w) t u fits u_len x (omega (arith, size))
         ∙ ap (λ m. get_or m x 0) made
         ∙ get_first (length old) _ old x (omega arith) (omega (arith, old_len))
-        ∙ ap₂ (λ a m. fold (join_by grows) a (λ j. get_or b (x + get_or (take count at) j 0) 0) m) (old_at x l)
+        ∙ ap₂ (λ a m. fold (join_by grows) a (λ j. get_or b (x + get_or (take count at) j 0) 0) m)
+        (old_at x l)
         (length-take-le count at (omega (arith, strokes.few, strokes.long)))
         ∙ fold_same (join_by grows) (get_or t (y * w + x) 0) _ _ count
         (λ j hj. ap (λ p. get_or b (x + p) 0) (get_or-take count at j 0 hj))
@@ -119,7 +121,8 @@ module _ (grows : Bool) (s : List ℕ) (w h : ℕ) (o : Outline) (words : List �
   -- ---- all rows of both kinds are done
   pub bytes_all : (t : List ℕ) → Bytes s → Bytes t → PartOf EightBit grows s w h o words 2 0 0 t → 1 ≤ w
       → length t ≡ h * w
-      → t ≡ bytes_of EightBit (swept_by grows flat 255 (frame w h) (shape_by o words) (value_at EightBit s w)) w h
+      → t ≡ bytes_of EightBit
+      (swept_by grows flat 255 (frame w h) (shape_by o words) (value_at EightBit s w)) w h
   unfolding value_at value_in
   bytes_all t source target done some len =
       lists_same (h * w) t (bytes_of EightBit A w h) len (bytes_long EightBit A w h)

@@ -58,13 +58,15 @@ module _ (grows : Bool) (s : List ℕ) (w h : ℕ) (o : Outline) (words hs : Lis
 
   pub bytes_none : (t : List ℕ) (n : ℕ) → n ≡ w → t ≡ firsts (λ x. start_by grows 255) n → t ≡ bytes_after 0
   unfolding bytes_after
-  bytes_none = columns_none grows (weigh_by grows) w h (heightened_by o words hs) (value_at EightBit s w) y 255
+  bytes_none = columns_none grows (weigh_by grows) w h (heightened_by o words hs) (value_at EightBit s w) y
+      255
 
   pub bytes_more : (n : ℕ) (t u : List ℕ) → t ≡ bytes_after n
       → u ≡ added_row grows (weigh_by grows) w h (heightened_by o words hs) (value_at EightBit s w) y t n
       → u ≡ bytes_after (n + 1)
   unfolding bytes_after
-  bytes_more = columns_more grows (weigh_by grows) w h (heightened_by o words hs) (value_at EightBit s w) y 255
+  bytes_more = columns_more grows (weigh_by grows) w h (heightened_by o words hs) (value_at EightBit s w) y
+      255
 
   pub bytes_all : (n : ℕ) (t : List ℕ) → t ≡ bytes_after n → n ≡ o.h → t ≡ byte_row grows s w h o words hs y
   unfolding bytes_after byte_row swept_bytes heightened_by row_of row_byte

@@ -114,7 +114,8 @@ window_run grows n wide P Q x low high win v = (to, from)
     to h k l =
         let p = join_to grows (join_by grows (join_by grows (Q x) (Q (x + min n (wide - n))))
         (Q (x + min (n + n) (wide - n)))) (Q (x + (wide - n))) v h in
-        let q = join_to grows (join_by grows (Q x) (Q (x + min n (wide - n)))) (Q (x + min (n + n) (wide - n)))
+        let q = join_to grows (join_by grows (Q x) (Q (x + min n (wide - n))))
+        (Q (x + min (n + n) (wide - n)))
         v p.0 in
         let r = join_to grows (Q x) (Q (x + min n (wide - n))) v q.0 in
         ⊎_elim

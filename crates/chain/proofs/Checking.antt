@@ -19,7 +19,8 @@ use Rattle.answer.specs.Refuse.{Test, refuse, FirstHolds, here, later}
 use Rattle.answer.proofs.Order.{Numbered}
 use Rattle.answer.proofs.Lent.{all_done}
 use Rattle.element.specs.declared.Element.{Element}
-use Rattle.element.specs.Descriptor.{most_cells, wide_of, high_of, well_made, shape_in, cell_at, descriptor_length}
+use Rattle.element.specs.Descriptor.{most_cells, wide_of, high_of, well_made, shape_in, cell_at}
+use Rattle.element.specs.Descriptor.{descriptor_length}
 use Rattle.element.specs.Record.{cell_on, element_of, shape_of}
 use Rattle.basics.specs.Bytes.{Bytes}
 use Rattle.element.proofs.WellMade.{cells_tell, made_cells}
@@ -164,7 +165,8 @@ held_trim : (d : List ℕ) → Bytes d → well_made d ≡ true → high_of d �
 unfolding shape_in shape_of element_of link_by first_rows
 held_trim d b e h =
     trim_same (link_shape (link_of (element_of d))) (cell_at d) (λ c r hc hr.
-    ap (λ word. cell_on word c) (get_d_firsts (λ r. get_or (element_of d).rows r 0) most_link_cells r (omega arith))
+    ap (λ word. cell_on word c)
+    (get_d_firsts (λ r. get_or (element_of d).rows r 0) most_link_cells r (omega arith))
     ∙ cell_same d b (made_cells d e) c r hc hr)
 
 links_trim : (k : ℕ) (d : List ℕ) → Bytes d → refuse (link_tests k d) (plain 0) ≡ plain 0

@@ -31,7 +31,8 @@ use Rattle.hulls.specs.Extent.{extent_of}
 use Rattle.hulls.specs.Hull.{hull_in, rows_in, side_of, hull_by, hull_of}
 use Rattle.candidates.specs.Candidates.{try_no, needed, links_of, link_bytes, chain_by}
 use Rattle.dividing.specs.Least.{least_from}
-use Rattle.chainfor.specs.Find.{tries, accepts, first_try, is_tried, sum_way, sums, is_searched, within, is_found}
+use Rattle.chainfor.specs.Find.{tries, accepts, first_try, is_tried, sum_way, sums, is_searched, within}
+use Rattle.chainfor.specs.Find.{is_found}
 use Rattle.candidates.proofs.Numbers.{needs_one, needs_two, needs_three, needs_four, needs_five}
 use Rattle.hulls.proofs.Hulls.{rows_in_lem}
 use Rattle.chainfor.proofs.Finding.{within_near}

@@ -31,7 +31,8 @@ use Rattle.chainfor.specs.declared.Found.{Found}
 use Rattle.candidates.specs.Candidates.{try_no, links_of, chain_by}
 use Rattle.dividing.specs.Least.{least_from}
 use Rattle.chainfor.specs.Find.{tries, accepts, first_try, is_tried, sum_way, sum_links, sum_chain, sums}
-use Rattle.chainfor.specs.Find.{within, is_found, chain_for, links_for, find_tests, find_answer, gave_up, FoundAs}
+use Rattle.chainfor.specs.Find.{within, is_found, chain_for, links_for, find_tests, find_answer, gave_up}
+use Rattle.chainfor.specs.Find.{FoundAs}
 use Rattle.chainfor.specs.Find.{is_searched, chain_left}
 use Rattle.chainfor.proofs.Finding.{find_done, chain_few}
 use Rattle.chainlaw.specs.Boxes.{Filled, InReach}

@@ -121,7 +121,8 @@ module _ (rows : List ℕ) (column row first last j link : ℕ) (f : Bool)
   module _ (rest : List ℕ) (n : ℕ) (t : f ≡ true) (er : rest ≡ rest_of rows link (j % 8))
       (en : n ≡ first_bare rows link (j % 8) rest) where
     whole : eqb (first_bare rows link (j % 8) (rest_of rows link (j % 8))) 64 ≡ eqb n 64
-    whole = ap (λ (r : List ℕ). eqb (first_bare rows link (j % 8) r) 64) (sym er) ∙ ap (λ m. eqb m 64) (sym en)
+    whole = ap (λ (r : List ℕ). eqb (first_bare rows link (j % 8) r) 64) (sym er)
+        ∙ ap (λ m. eqb m 64) (sym en)
 
     pub origin_bare : ¬ (n ≡ 64) → 64 ≡ origin_no rows column row first last j
     unfolding origin_by

@@ -23,7 +23,8 @@ fits link j single =
     cond (is_set link (j % 8))
     (cond (is_set link (63 - j / 8 % 64))
     (cond single true
-    (cond (eqb (63 - j / 8 % 64) (j % 8)) false (not (eqb (bit_and link 9259542123273814144) 0)))) false) false
+    (cond (eqb (63 - j / 8 % 64) (j % 8)) false (not (eqb (bit_and link 9259542123273814144) 0)))) false)
+    false
 
 -- in one quarter about the origin, with the link's in its cell o, link and rest make up the board
 unfoldable pub quarter_suits : List ℕ → ℕ → ℕ → ℕ → ℕ → List ℕ → ℕ → Bool → Bool → Bool

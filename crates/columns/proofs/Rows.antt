@@ -100,7 +100,8 @@ module _ (packed grows : Bool) (s : List ℕ) (n lo : ℕ) where
 
 -- a row made the way that was asked for
 pub as_asked : (packed grows way : Bool) (s u : List ℕ) (n lo count row : ℕ) → grows ≡ way
-    → u ≡ firsts (also_at packed way s n lo count row) n → u ≡ firsts (also_at packed grows s n lo count row) n
+    → u ≡ firsts (also_at packed way s n lo count row) n → u
+    ≡ firsts (also_at packed grows s n lo count row) n
 as_asked packed grows way s u n lo count row e eu =
     eu ∙ ap (λ g. firsts (also_at packed g s n lo count row) n) (sym e)
 

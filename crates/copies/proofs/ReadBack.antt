@@ -18,7 +18,8 @@ use Rattle.picture.specs.declared.Depth.{Depth}
 use Rattle.picture.specs.declared.Face.TheVariants.{AsIs}
 use Rattle.picture.specs.Frame.{row_bytes, picture_bytes, spare_bits}
 use Rattle.picture.specs.Points.{value_at}
-use Rattle.picture.specs.Bytes.{row_byte, row_of, bytes_of, turned, faced, last_clear, lasts_clear, padding_clear}
+use Rattle.picture.specs.Bytes.{row_byte, row_of, bytes_of, turned, faced, last_clear, lasts_clear}
+use Rattle.picture.specs.Bytes.{padding_clear}
 use Rattle.copies.specs.Steps.Copy.{cleared_byte, cleared_at}
 use Rattle.picture.proofs.Sizes.{row_some}
 use Rattle.picture.proofs.Rows.{row_length}
@@ -72,12 +73,14 @@ module _ (depth : Depth) (s : List ℕ) (bytes : (i : ℕ) → get_or s i 0 < 25
       there : (y i : ℕ) → y < h → i < n
           → get_or (bytes_of depth (λ x y. value_at depth s w x y) w h) (y * n + i) 0 ≡ get_or s (y * n + i) 0
       there y i hy hi =
-          ap (λ q. get_or q (y * n + i) 0) (sym (append-nil (bytes_of depth (λ x y. value_at depth s w x y) w h)))
+          ap (λ q. get_or q (y * n + i) 0)
+          (sym (append-nil (bytes_of depth (λ x y. value_at depth s w x y) w h)))
           ∙ get_d_joined R n (λ y. row_length depth (λ x. value_at depth s w x y) w) h y i [] hy hi
           ∙ get_d_firsts (row_byte depth (λ x. value_at depth s w x y) w) n i hi
           ∙ sym (cleared_is AsIs s bytes w depth y i hi) ∙ cleared_whole y i hy hi
 
-      each : (j : ℕ) → j < h * n → get_or (bytes_of depth (λ x y. value_at depth s w x y) w h) j 0 ≡ get_or s j 0
+      each : (j : ℕ) → j < h * n → get_or (bytes_of depth (λ x y. value_at depth s w x y) w h) j 0
+          ≡ get_or s j 0
       each j l =
           let p = row_some depth w some in
           let e = div-add-mod' j n in

@@ -1,5 +1,6 @@
 -- The sum of a link and of what it left, row by row.
-use Rattle.std.specs.Prelude.{ℕ, zero, suc, ◌+◌, ◌-◌, ◌/◌, ◌%◌, Bool, true, false, cond, not, List, eqb, get_or}
+use Rattle.std.specs.Prelude.{ℕ, zero, suc, ◌+◌, ◌-◌, ◌/◌, ◌%◌, Bool, true, false, cond, not, List, eqb}
+use Rattle.std.specs.Prelude.{get_or}
 use Rattle.std.specs.Int.Bits.{bit_or}
 use Rattle.dividing.specs.Board.{turned, is_set}
 use Rattle.dividing.specs.Least.{least_from}

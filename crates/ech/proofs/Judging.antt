@@ -117,7 +117,8 @@ pub record Formed (f : List ℕ) : Type 0 where
 pub formed_tells : (f : List ℕ) → formed f ≡ true → Formed f
 unfolding formed
 formed_tells f e =
-    let p = both (leb head_bytes (length f) && mark_of f && eqb (version_of f) 1) (known_kind (kind_of f)) e in
+    let p = both (leb head_bytes (length f) && mark_of f && eqb (version_of f) 1) (known_kind (kind_of f))
+    e in
     let q = both (leb head_bytes (length f) && mark_of f) (eqb (version_of f) 1) p.0 in
     let r = both (leb head_bytes (length f)) (mark_of f) q.0 in
     record {

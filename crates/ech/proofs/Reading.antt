@@ -71,7 +71,8 @@ module _ (f : List ℕ) (room : ℕ) where
       subst (λ a. GivenBack a (reported_kind f) (pings_of f) (bins_of f) r) (formed_answer e)
       (subst (λ k. GivenBack (body_answer k (pings_of f) (bins_of f) (body_of f) room)
       (reported k) (pings_of f) (bins_of f) r) ek
-      (subst (λ k. GivenBack (body_answer kind k (bins_of f) (body_of f) room) (reported kind) k (bins_of f) r) ew
+      (subst (λ k. GivenBack (body_answer kind k (bins_of f) (body_of f) room) (reported kind) k (bins_of f)
+      r) ew
       (subst (λ k. GivenBack (body_answer kind w k (body_of f) room) (reported kind) w k r) eh
       (subst (λ l. GivenBack (body_answer kind w h l room) (reported kind) w h r) es p))))
 
@@ -84,8 +85,10 @@ module _ (f : List ℕ) (room : ℕ) where
   unfolding told plain
   unformed e r q =
       let n = unformed_answer e in
-      subst (λ (x : Header). GivenBack (read_answer f room) (reported_kind f) (pings_of f) (bins_of f) x) (sym q)
-      (back_refused Form (reported_kind f) (pings_of f) (bins_of f) (read_answer f room) n (ap is_done (sym n)))
+      subst (λ (x : Header). GivenBack (read_answer f room) (reported_kind f) (pings_of f) (bins_of f) x)
+      (sym q)
+      (back_refused Form (reported_kind f) (pings_of f) (bins_of f) (read_answer f room) n
+      (ap is_done (sym n)))
 
 -- what is copied is the file's picture, and a refusal copies nothing
 module _ (f t : List ℕ) (room : ℕ) (r : Header)

@@ -62,7 +62,8 @@ module _ (kind w h : ℕ) (known : known_kind kind ≡ true) (rest : List ℕ) w
 
 -- ---- a read of a file that is formed and admitted
 pub read_admitted : (f u : List ℕ) (kind w h : ℕ) (body : List ℕ) → formed f ≡ true → kind_of f ≡ kind
-    → pings_of f ≡ w → bins_of f ≡ h → body_of f ≡ body → Admitted Judged (depth_of kind) w h body 0 (length u)
+    → pings_of f ≡ w → bins_of f ≡ h → body_of f ≡ body
+    → Admitted Judged (depth_of kind) w h body 0 (length u)
     → (is_done (read_answer f (length u)) ≡ true)
     × (read_target f u ≡ written (depth_of kind) (faced (depth_of kind) (face_of kind) body w) w h u)
 unfolding read_answer read_target unless_refused
@@ -186,7 +187,8 @@ rewritten f =
 
 pub record Rewrites (f p t : List ℕ) : Type 0 where
   pub done : is_done (write_answer (reported_kind f) (pings_of f) (bins_of f) p t) ≡ true
-  pub bytes_same : write_target (reported_kind f) (pings_of f) (bins_of f) p t ≡ rewritten f ++ drop (length f) t
+  pub bytes_same : write_target (reported_kind f) (pings_of f) (bins_of f) p t ≡ rewritten f
+      ++ drop (length f) t
 
 -- what an accepted file tells
 pub record Accepted (f : List ℕ) : Type 0 where
@@ -226,7 +228,8 @@ module _ (f : List ℕ) (bytes : Bytes f) (ok : Accepted f) where
   picture_read t e =
       ap (λ b. take (picture_bytes (depth_of (kind_of f)) (pings_of f) (bins_of f))
       (cond b (written (depth_of (kind_of f))
-      (faced (depth_of (kind_of f)) (face_of (kind_of f)) (body_of f) (pings_of f)) (pings_of f) (bins_of f) t) t)) e
+      (faced (depth_of (kind_of f)) (face_of (kind_of f)) (body_of f) (pings_of f)) (pings_of f) (bins_of f)
+      t) t)) e
       ∙ take_at picture_in _ _ (bytes_long (depth_of (kind_of f)) _ (pings_of f) (bins_of f))
 
   small : (x y : ℕ) → x < pings_of f → y < bins_of f → picture_of f x y ≤ top (depth_of (kind_of f))
@@ -248,7 +251,8 @@ module _ (f : List ℕ) (bytes : Bytes f) (ok : Accepted f) where
   unfolding file_of rewritten picture_in
   file_again =
       ap (λ (d : Depth). head_of (reported_kind f) (pings_of f) (bins_of f)
-      ++ bytes_of d (value_at d picture_in (pings_of f)) (pings_of f) (bins_of f)) (reported_depth (kind_of f))
+      ++ bytes_of d (value_at d picture_in (pings_of f)) (pings_of f) (bins_of f))
+      (reported_depth (kind_of f))
       ∙ ap (λ l. head_of (reported_kind f) (pings_of f) (bins_of f) ++ l)
       (bytes_again (depth_of (kind_of f)) (picture_of f) (pings_of f) (bins_of f) small)
 

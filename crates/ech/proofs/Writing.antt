@@ -63,11 +63,13 @@ file_made kind w h depth ed s t u ys eu ey =
 
     front : take head_bytes u ≡ head_of kind w h
     front =
-        ap (take head_bytes) eu ∙ take_at (head_of kind w h) (drop head_bytes t) head_bytes (head_long kind w h)
+        ap (take head_bytes) eu
+        ∙ take_at (head_of kind w h) (drop head_bytes t) head_bytes (head_long kind w h)
 
     rest : drop head_bytes u ≡ drop head_bytes t
     rest =
-        ap (drop head_bytes) eu ∙ drop_at (head_of kind w h) (drop head_bytes t) head_bytes (head_long kind w h)
+        ap (drop head_bytes) eu
+        ∙ drop_at (head_of kind w h) (drop head_bytes t) head_bytes (head_long kind w h)
 
     none : drop (length u - head_bytes) (drop head_bytes u) ≡ []
     none =
@@ -95,7 +97,8 @@ module _ (kind w h : ℕ) (s t : List ℕ) where
   -- the picture's answer, for what is found of the kind and for a depth
   abbrev judged_as : Told → Depth → Told
   judged_as b d =
-      refuse (picture_tests Free d w h s) (if_done b (refuse (room_tests d w h head_bytes (length t)) (plain 0)))
+      refuse (picture_tests Free d w h s)
+      (if_done b (refuse (room_tests d w h head_bytes (length t)) (plain 0)))
 
   module _ (known : known_kind kind ≡ true) (depth : Depth) (ed : depth ≡ depth_of kind)
       (between : Told) (eb : between ≡ refuse (retired_tests kind) (plain 0)) (a : Answer)
@@ -104,14 +107,18 @@ module _ (kind w h : ℕ) (s t : List ℕ) where
     unfolding write_answer
     write_answer_lem =
         ea ∙ ap₂ judged_as eb ed
-        ∙ between_tests Free (depth_of kind) w h s (retired_tests kind) head_bytes (length t) (omega arith, tt)
+        ∙ between_tests Free (depth_of kind) w h s (retired_tests kind) head_bytes (length t)
+        (omega arith, tt)
         ∙ simp known
 
     pub write_done : (u : List ℕ) → is_done (told a) ≡ true
         → u ≡ file_of kind w h s ++ drop (head_bytes + picture_bytes (depth_of kind) w h) t
         → (told a ≡ write_answer kind w h s t) × (u ≡ write_target kind w h s t)
     unfolding write_target
-    write_done u d e = (write_answer_lem, made_by_lem t _ (write_answer kind w h s t) (told a) write_answer_lem u d e)
+    write_done u d e = (
+      write_answer_lem,
+      made_by_lem t _ (write_answer kind w h s t) (told a) write_answer_lem u d e,
+    )
 
     pub write_refused : is_done (told a) ≡ false
         → (told a ≡ write_answer kind w h s t) × (t ≡ write_target kind w h s t)
@@ -122,11 +129,13 @@ module _ (kind w h : ℕ) (s t : List ℕ) where
   pub write_passes : known_kind kind ≡ true → eqb kind 3 ≡ false
       → Admitted Free (depth_of kind) w h s head_bytes (length t)
       → (is_done (write_answer kind w h s t) ≡ true)
-      × (write_target kind w h s t ≡ file_of kind w h s ++ drop (head_bytes + picture_bytes (depth_of kind) w h) t)
+      × (write_target kind w h s t ≡ file_of kind w h s
+      ++ drop (head_bytes + picture_bytes (depth_of kind) w h) t)
   unfolding write_answer write_target unless_refused plain
   write_passes known made p =
       let done : is_done (write_answer kind w h s t) ≡ true =
       simp (known, made, p.sized, eq-eqb _ _ p.whole, le-ltb _ _ p.roomy) in (
         done,
-        ap (λ b. cond b (file_of kind w h s ++ drop (head_bytes + picture_bytes (depth_of kind) w h) t) t) done,
+        ap (λ b. cond b (file_of kind w h s ++ drop (head_bytes + picture_bytes (depth_of kind) w h) t) t)
+            done,
       )

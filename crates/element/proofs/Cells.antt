@@ -93,7 +93,8 @@ unfolding well_made well_weighted
 never_both d e f =
     let t = cells_tell d (made_cells d e) in
     let l = eqb-true (length d) (cells_end (wide_of d) (high_of d)) (both (cells_made d) _ e).1 in
-    let m = eqb-true (length d) (cells_end (wide_of d) (high_of d) + picture_bytes EightBit (wide_of d) (high_of d))
+    let m = eqb-true (length d)
+    (cells_end (wide_of d) (high_of d) + picture_bytes EightBit (wide_of d) (high_of d))
     (both (cells_made d) _ (both (cells_made d && eqb (length d)
     (cells_end (wide_of d) (high_of d) + picture_bytes EightBit (wide_of d) (high_of d))) _ f).0).1 in
     omega

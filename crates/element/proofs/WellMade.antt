@@ -91,7 +91,8 @@ module _ (d : List ℕ) where
   unfolding cells_made
   cells_tell e =
       let p =
-      both (leb 4 (length d) && head_made (wide_of d) (high_of d) (origin_column_of d) (origin_row_of d)) _ e in
+      both (leb 4 (length d) && head_made (wide_of d) (high_of d) (origin_column_of d) (origin_row_of d)) _
+      e in
       let q = both (leb 4 (length d))
       (head_made (wide_of d) (high_of d) (origin_column_of d) (origin_row_of d)) p.0 in
       let r = both (leb (cells_end (wide_of d) (high_of d)) (length d))
@@ -114,7 +115,8 @@ module _ (d : List ℕ) where
   unfolding cells_made
   cells_short h = simp (lt-leb 4 (length d) h)
 
-  pub head_fails : 4 ≤ length d → head_made (wide_of d) (high_of d) (origin_column_of d) (origin_row_of d) ≡ false
+  pub head_fails : 4 ≤ length d → head_made (wide_of d) (high_of d) (origin_column_of d) (origin_row_of d)
+      ≡ false
       → false ≡ cells_made d
   unfolding cells_made
   head_fails l h = simp (le-leb 4 (length d) l, h)

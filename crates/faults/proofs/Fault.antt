@@ -48,7 +48,8 @@ by_sum h s p b eh es = simp (eh, es)
 path_sum : (Bs : List Shape) (e : Place) → path_test Bs e ≡ true → sum_test Bs e ≡ true
 path_sum Bs e h =
     truly (sum_test Bs e) (sum_complete Bs e
-    (weaken (BetweenAt e) (λ p. Unit {0}) (λ p b. tt) Bs still e (path_sound Bs e (holds (path_test Bs e) h))))
+    (weaken (BetweenAt e) (λ p. Unit {0}) (λ p b. tt) Bs still e
+    (path_sound Bs e (holds (path_test Bs e) h))))
   where
     holds : (b : Bool) → b ≡ true → T b
     holds true e = tt

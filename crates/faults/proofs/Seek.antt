@@ -37,7 +37,8 @@ module _ (test : Place → Bool) where
         | false ↦ scan_row test (least + j) (suc (least + c)) n (seek test ((j + 1) * row_offsets) rest)
       ]) (column j c n e) (row j c n e)
       ∙ ap {B = Verdict} (λ v. elim (test (place_no (j * row_offsets + c))) [
-        | true ↦ Split (least + (j * row_offsets + c) % row_offsets) (least + (j * row_offsets + c) / row_offsets)
+        | true ↦ Split (least + (j * row_offsets + c) % row_offsets)
+            (least + (j * row_offsets + c) / row_offsets)
         | false ↦ v
       ])
       (ap (λ x. scan_row test (least + j) x n (seek test ((j + 1) * row_offsets) rest)) (up c)

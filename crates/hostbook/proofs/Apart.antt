@@ -56,7 +56,8 @@ get_apart_lem b p n =
 
 -- so of every number that the contracts of `qik_display_get` and `qik_export_get` allow,
 -- as the prover reads them
-pub qik_display_get_apart : (κs : Lfts 1) (a : Dens κs display-kinds.ps) (r : (res_t display-kinds.r κs).Denot)
+pub qik_display_get_apart : (κs : Lfts 1) (a : Dens κs display-kinds.ps)
+    (r : (res_t display-kinds.r κs).Denot)
     (e : AtExit (ended_of 1 display-kinds.ps display-kinds.r) κs) → display-reads.Learnt κs a r e
     → get_apart r ≡ get_told a.0.now Display a.1.0
 qik_display_get_apart κs a r e p = ap get_apart p ∙ get_apart_lem a.0.now Display a.1.0

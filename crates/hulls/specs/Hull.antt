@@ -1,5 +1,6 @@
 -- What is measured of an element before the search.
-use Rattle.std.specs.Prelude.{ℕ, ◌+◌, ◌-◌, ◌*◌, ◌/◌, ◌%◌, ◌^◌, min, max, cond, List, ◌++◌, ltb, get_or, replicate}
+use Rattle.std.specs.Prelude.{ℕ, ◌+◌, ◌-◌, ◌*◌, ◌/◌, ◌%◌, ◌^◌, min, max, cond, List, ◌++◌, ltb, get_or}
+use Rattle.std.specs.Prelude.{replicate}
 use Rattle.basics.specs.Bits.{digits}
 use Rattle.basics.specs.Lists.{firsts}
 use Rattle.picture.specs.declared.Depth.TheVariants.{OneBit}
@@ -46,7 +47,8 @@ unfoldable pub word_in : List ℕ → ℕ → ℕ → ℕ
 word_in d n r = digits 8 (λ j. cond (ltb j n) (get_or d (4 + r * n + j) 0) 0) 8
 
 unfoldable pub rows_in : List ℕ → List ℕ
-rows_in d = firsts (word_in d (row_bytes OneBit (wide_of d))) (high_of d) ++ replicate (most_cells - high_of d) 0
+rows_in d = firsts (word_in d (row_bytes OneBit (wide_of d))) (high_of d)
+    ++ replicate (most_cells - high_of d) 0
 
 -- and the hull of a descriptor
 unfoldable pub hull_in : List ℕ → Hull

@@ -170,7 +170,8 @@ module _ (padding : Padding) (depth : Depth) (w h : ℕ) (s : List ℕ) (made : 
       (p.0, not-false made (staged (not made) 4 (plain 0) (omega arith) (ap is_done (sym es) ∙ p.1)).0)
 
   -- the same of the answer of the whole list
-  pub told_admitted : (answer : Told) → answer ≡ refuse (element_tests padding depth w h s made room) (plain 0)
+  pub told_admitted : (answer : Told) → answer
+      ≡ refuse (element_tests padding depth w h s made room) (plain 0)
       → is_done answer ≡ true → Admitted padding depth w h s 0 room × (made ≡ true)
   told_admitted answer ea e =
       element_admitted (refuse (shape_tests made) (plain 0)) answer refl

@@ -50,7 +50,8 @@ pub record Lawful (lower raise : Change) (top : ℕ) (F : Frame) (B : Shape) : T
   pub opening_twice : (X : Picture) → Bounded top F X
       → Alike F (open_by lower raise top F B (open_by lower raise top F B X)) (open_by lower raise top F B X)
   pub closing_twice : (X : Picture) → Bounded top F X
-      → Alike F (close_by lower raise top F B (close_by lower raise top F B X)) (close_by lower raise top F B X)
+      → Alike F (close_by lower raise top F B (close_by lower raise top F B X))
+      (close_by lower raise top F B X)
 
 -- of flat elements at one bit, of flat elements at 8 bits, and of weighted ones
 abbrev pub OneBitLaw : Type 0

@@ -94,4 +94,5 @@ module _ (depth : Depth) (from : From) (w h : ℕ) (s t : List ℕ) (bs : Bytes 
       (λ x y hx hy. ap (λ l. value_at depth l w x y) e ∙ point_less x y hx hy)
       ∙ ap (λ l. written depth R w h l) e
       ∙ ap (λ l. bytes_of depth R w h ++ l)
-      (zip_past _ t beside (picture_bytes depth w h) (le_of_eq (length-take-le (picture_bytes depth w h) s ls)))
+      (zip_past _ t beside (picture_bytes depth w h)
+      (le_of_eq (length-take-le (picture_bytes depth w h) s ls)))

@@ -71,7 +71,8 @@ module _ (a b u : ℕ) (ha : a < 256) (hb : b < 256) where
 
 -- ---- a row, as the loop finds it
 module _ (a b : List ℕ) (at n u : ℕ) where
-  pub row_stopped : (i : ℕ) → i < n - 1 → byte_within_at a b 0 (at + i) ≡ false → false ≡ row_within a b at n u
+  pub row_stopped : (i : ℕ) → i < n - 1 → byte_within_at a b 0 (at + i) ≡ false → false
+      ≡ row_within a b at n u
   unfolding row_within
   row_stopped i l e =
       sym (ap (λ t. t && byte_within_at a b u (at + (n - 1)))

@@ -10,7 +10,8 @@ use Rattle.grown.specs.Marker.{outside}
 
 -- MARKER, by the points alone: what stands in the padding never counts, in either
 abbrev pub marker_tests : ℕ → ℕ → List ℕ → List ℕ → List Test
-marker_tests w h marker mask = (outside (frame w h) (value_at OneBit mask w) (value_at OneBit marker w), 12) ∷ []
+marker_tests w h marker mask = (outside (frame w h) (value_at OneBit mask w) (value_at OneBit marker w), 12)
+    ∷ []
 
 -- SIZE, SOURCE of the marker, SOURCE of the mask, MARKER, ROOM of a target of so many bytes
 abbrev pub grow_tests : ℕ → ℕ → List ℕ → List ℕ → ℕ → List Test

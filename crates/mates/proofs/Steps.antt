@@ -6,7 +6,8 @@ use native.Mathlib.Numerals.{add-one}
 use borrow.Author.Tests.{ne_eqb}
 use lib.ListN.{length, set}
 use Rattle.basics.proofs.Lists.{over_none, over_more}
-use Rattle.regions.specs.Steps.Union.{root_of, united, up_right_mate, mate_of, mates_united, point_united, united_to}
+use Rattle.regions.specs.Steps.Union.{root_of, united, up_right_mate, mate_of, mates_united, point_united}
+use Rattle.regions.specs.Steps.Union.{united_to}
 use Rattle.regions.specs.Steps.Union.{flat_to}
 use Rattle.regions.specs.Steps.Union.{alone, labelled}
 use Rattle.regions.specs.Regions.{point_of}

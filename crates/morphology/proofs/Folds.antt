@@ -66,7 +66,8 @@ pub record FoundCell {A : Type 0} (B : Shape) (taken : ℕ → ℕ → Bool)
   pub is_taken : T (taken column row)
   pub is : a ≡ value column row
 
-module _ {A : Type 0} (join : A → A → A) (one_of_lem : (a b : A) → (join a b ≡ a) ⊎ (join a b ≡ b)) (z : A) where
+module _ {A : Type 0} (join : A → A → A) (one_of_lem : (a b : A) → (join a b ≡ a) ⊎ (join a b ≡ b))
+    (z : A) where
   fold_found : (f : ℕ → A) (n : ℕ) → (fold join z f n ≡ z) ⊎ ((i : ℕ) × (i < n) × (fold join z f n ≡ f i))
   unfolding fold
   fold_found f zero = inl refl

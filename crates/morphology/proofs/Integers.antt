@@ -42,7 +42,8 @@ module _ (a b c d : ℕ) where
           omega arith
       by (below l p) (above k q) = omega arith
       by (above l p) (below k q) = absurd (subst₂ (λ (x y : ℤ). T (le_z x y)) p q t)
-      by (above l p) (above k q) = let h = leb→le (a - b) (c - d) (subst₂ (λ (x y : ℤ). T (le_z x y)) p q t) in
+      by (above l p) (above k q) = let h =
+          leb→le (a - b) (c - d) (subst₂ (λ (x y : ℤ). T (le_z x y)) p q t) in
           omega arith
 
   le_sub_test : a + d ≤ c + b → T (le_z (sub_ℕ a b) (sub_ℕ c d))

@@ -93,7 +93,8 @@ erode_bounded f top F B A p i = erode_top f top F B A p
 
 pub dilate_bounded : (f : Change) (top : ℕ) (F : Frame) (B : Shape) (A : Picture)
     → Holding top f → Bounded top F A → Bounded top F (dilate_by f F B A)
-dilate_bounded f top F B A holds b q i = (dilation f F B A q top).1 (λ p ip s. holds (height_at B s) _ (b p ip))
+dilate_bounded f top F B A holds b q i =
+    (dilation f F B A q top).1 (λ p ip s. holds (height_at B s) _ (b p ip))
 
 -- ---- opening and closing, for a pair that belongs together
 
@@ -156,7 +157,8 @@ module _ (lower raise : Change) (top : ℕ) (P : Paired top lower raise) (F : Fr
       (opening_greatest o bo (erode_by lower top F B A) (erode_bounded lower top F B A) (within_refl F o) p i)
 
   pub closing_twice : (A : Picture) → Bounded top F A
-      → Alike F (close_by lower raise top F B (close_by lower raise top F B A)) (close_by lower raise top F B A)
+      → Alike F (close_by lower raise top F B (close_by lower raise top F B A))
+      (close_by lower raise top F B A)
   closing_twice A b p i =
       let k = close_by lower raise top F B A in
       let bk = erode_bounded lower top F B (dilate_by raise F B A) in

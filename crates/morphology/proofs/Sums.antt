@@ -142,7 +142,8 @@ module _ (F : Frame) (B : Shape) (byte : (c r : ℕ) → B.height c r ≤ 255)
 
   pub open_sums_lem : open_sums F B A p.x p.y ≡ open_weighted F B A p.x p.y
   open_sums_lem =
-      dilate_sums_lem F B byte (erode_sums F B A) (λ q i. rw (eroded q i) (erode_bounded lower 255 F B A q i)) p
+      dilate_sums_lem F B byte (erode_sums F B A)
+      (λ q i. rw (eroded q i) (erode_bounded lower 255 F B A q i)) p
       ∙ dilate_alike raise F B (erode_sums F B A) (erode_by lower 255 F B A) eroded p
 
   pub close_sums_lem : close_sums F B A p.x p.y ≡ close_weighted F B A p.x p.y

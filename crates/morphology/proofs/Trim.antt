@@ -99,7 +99,8 @@ walk_trim inside (B ∷ Bs) p q =
     (sym (ap₂ (λ s t. s && (t && B.has c r)) (lt-ltb c B.wide hc) (lt-ltb r B.high hr)))
     (walk_trim inside Bs (moved_by B p c r) q)))
 
-fault_trim : (E : Shape) (Bs : List Shape) (e : Place) → fault_test E Bs e ≡ fault_test (trim E) (map trim Bs) e
+fault_trim : (E : Shape) (Bs : List Shape) (e : Place) → fault_test E Bs e
+    ≡ fault_test (trim E) (map trim Bs) e
 unfolding fault_test has_test sum_test path_test
 fault_trim E Bs e =
     ap₂ (λ h p. elim h [ true ↦ not p | false ↦ walk_test (λ s. true) Bs still e ])

@@ -1,6 +1,7 @@
 -- The chain check, as a definition that computes: a scan of the offsets in row order for the first at fault.
 -- proofs/Check.antt: it says what Chain.antt says.
-use Rattle.std.specs.Prelude.{ℕ, zero, suc, ◌+◌, ◌-◌, min, max, Bool, true, false, not, ◌&&◌, List, [], ◌∷◌, leb, eqb}
+use Rattle.std.specs.Prelude.{ℕ, zero, suc, ◌+◌, ◌-◌, min, max, Bool, true, false, not, ◌&&◌, List, []}
+use Rattle.std.specs.Prelude.{◌∷◌, leb, eqb}
 use Rattle.std.proofs.Math.IntN.{sub_ℕ}
 use Rattle.answer.specs.Answer.{centre}
 use Rattle.basics.specs.Tests.{any}

@@ -1,6 +1,7 @@
 -- Document 01, "Worked pictures": P1 to P15 as one table. proofs/Worked.antt has its one proof.
 -- A one-bit picture is written as one number in binary, a row after another; 8-bit values as a list.
-use Rattle.std.specs.Prelude.{ℕ, ◌+◌, ◌-◌, ◌*◌, ◌^◌, Bool, true, false, ◌&&◌, List, [], ◌∷◌, eqb, ℤ, pos, get_or}
+use Rattle.std.specs.Prelude.{ℕ, ◌+◌, ◌-◌, ◌*◌, ◌^◌, Bool, true, false, ◌&&◌, List, [], ◌∷◌, eqb, ℤ, pos}
+use Rattle.std.specs.Prelude.{get_or}
 use Rattle.std.proofs.Math.IntN.{sub_ℕ}
 use Rattle.std.specs.Int.Signed.{le_z}
 use Rattle.answer.specs.Answer.{centre}

@@ -26,7 +26,8 @@ module _ (over : Bool) (s : List ℕ) (w n from : ℕ) where
 
   pub rows_more : (i : ℕ) (v x u : Strip) → from ≤ i → OffWhere v (NoRow over s w n from i)
       → ((p : ℕ) → place_at x p ≡ row_place over s (i * n) w p)
-      → ((p : ℕ) → place_at u p ≡ max (place_at v p) (place_at x p)) → OffWhere u (NoRow over s w n from (i + 1))
+      → ((p : ℕ) → place_at u p ≡ max (place_at v p) (place_at x p))
+      → OffWhere u (NoRow over s w n from (i + 1))
   rows_more i v x u hi so row joined p = (
     λ z j h k.
         let q = both_off (place_at v p) (place_at x p) (place_at u p) (joined p) z in
@@ -42,12 +43,18 @@ module _ (over : Bool) (s : List ℕ) (w n from : ℕ) where
 -- ---- rows of an element that are the same
 pub same_none : (words : List ℕ) (r h : ℕ) → r < h → SameRows words r h (r + 1)
 same_none words r h l =
-    record { some = omega arith; few = omega arith; same = λ i a b. ap (λ n. get_or words n 0) (only i r a b) }
+    record {
+      some = omega arith;
+      few = omega arith;
+      same =
+          λ i a b. ap (λ n. get_or words n 0) (only i r a b);
+    }
   where
     only : (i r : ℕ) → r ≤ i → i < r + 1 → i ≡ r
     only i r a b = omega arith
 
-pub same_more : (words : List ℕ) (r h e : ℕ) → e < h → get_or words e 0 ≡ get_or words r 0 → SameRows words r h e
+pub same_more : (words : List ℕ) (r h e : ℕ) → e < h → get_or words e 0 ≡ get_or words r 0
+    → SameRows words r h e
     → SameRows words r h (e + 1)
 same_more words r h e l q so =
     record {

@@ -123,7 +123,8 @@ seen g over s w n v u p en ep h =
     ∙ ap (row_point (turned_by g over) s (v * n) w) (back p u ep)
     ∙ ap (λ b. cond b (faced_point (turned_by g over) (point (v * n))) 0) (lt-ltb u w h)
     ∙ ap (λ m. faced_point (turned_by g over) (point (v * m))) en
-    ∙ face g over (point (v * row_bytes OneBit w)) (bit_lt (get_or s (v * row_bytes OneBit w + u / 8) 0) (7 - u
+    ∙ face g over (point (v * row_bytes OneBit w))
+    (bit_lt (get_or s (v * row_bytes OneBit w + u / 8) 0) (7 - u
     % 8))
   where
     point : ℕ → ℕ
@@ -205,7 +206,8 @@ module _ (k : Task) (s : List ℕ) (w n h : ℕ) (o : Outline) (words : List ℕ
       arith in
       seen g k.over s w n j (moved x (plus_by g o.origin.ping.0 d) (minus_by g o.origin.ping.0
       d)) p en ep lu
-      ∙ ap (λ i. faced_point (not g) (A (moved x (plus_by g o.origin.ping.0 d) (minus_by g o.origin.ping.0 d)) i)) ev
+      ∙ ap (λ i. faced_point (not g)
+      (A (moved x (plus_by g o.origin.ping.0 d) (minus_by g o.origin.ping.0 d)) i)) ev
       ∙ (swept_off (frame w h) (shape_by o words) A x y g).0 e d r hc hr
       (three_intro (cell_on (get_or words r 0) d)
       (within w x (plus_by g o.origin.ping.0 d) (minus_by g o.origin.ping.0 d))

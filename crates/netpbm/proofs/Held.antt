@@ -89,7 +89,8 @@ module _ (depth : Depth) (w h : ℕ) (s : List ℕ) (room : ℕ) where
           → cond (is_done (raster_answer depth (held w) (held h) s room)) (held n) 0
           ≡ cond (is_done (raster_answer depth w h s room)) n 0
       given n q =
-          ap (λ a. cond (is_done a) (held n) 0) answer_held ∙ by (is_done (raster_answer depth w h s room)) refl
+          ap (λ a. cond (is_done a) (held n) 0) answer_held
+          ∙ by (is_done (raster_answer depth w h s room)) refl
         where
           by : (t : Bool) → is_done (raster_answer depth w h s room) ≡ t → cond t (held n) 0 ≡ cond t n 0
           by true e = q (sized_done e)

@@ -144,7 +144,8 @@ module _ (depth : Depth) (f t : List ℕ) (room : ℕ) (r : Header)
         made_by_lem t _ (read_answer depth f (length t)) (told r.answer)
         (g.answer ∙ ap (read_answer depth f) er) u e
         (eu ∙ ap₂ (λ (w : ℕ) (l : List ℕ). written depth (value_at depth l w) w r.h t) own_pings es
-        ∙ ap (λ h. written depth (value_at depth (raster_of depth f) (pings_of depth f)) (pings_of depth f) h t)
+        ∙ ap (λ h. written depth (value_at depth (raster_of depth f) (pings_of depth f)) (pings_of depth f) h
+        t)
         own_bins)
 
   pub read_refused : room ≡ length t → is_done (told r.answer) ≡ false → t ≡ read_target depth f t

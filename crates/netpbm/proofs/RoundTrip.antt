@@ -122,7 +122,8 @@ module _ (depth : Depth) (f : List ℕ) (bytes : Bytes (raster_of depth f))
 
   -- what is read are the raster's own bytes
   pub raster_read : (t : List ℕ) → room ≡ length t
-      → take (picture_bytes depth (pings_of depth f) (bins_of depth f)) (read_target depth f t) ≡ raster_of depth f
+      → take (picture_bytes depth (pings_of depth f) (bins_of depth f)) (read_target depth f t)
+      ≡ raster_of depth f
   unfolding read_target unless_refused written w h raster
   raster_read t er =
       ap (λ b. take (picture_bytes depth w h)

@@ -32,7 +32,8 @@ use Rattle.netpbm.specs.ReadWrite.{write_answer, write_target}
 -- ---- the head in pieces: a label with a number each, and the end
 pub head_is : (depth : Depth) (w h : ℕ)
     → flatten
-    (((80 ∷ magic_digit depth ∷ line_feed ∷ []) ++ decimal w) ∷ ((space ∷ []) ++ decimal h) ∷ tail_of depth ∷ [])
+    (((80 ∷ magic_digit depth ∷ line_feed ∷ []) ++ decimal w) ∷ ((space ∷ []) ++ decimal h) ∷ tail_of depth
+    ∷ [])
     ≡ head_of depth w h
 unfolding head_of flatten
 head_is depth w h = simp (append_assoc, append-nil)
@@ -113,7 +114,10 @@ module _ (depth : Depth) (w h : ℕ) (s t : List ℕ) (n : ℕ) (en : n ≡ leng
       → u ≡ file_of depth w h s ++ drop (length (file_of depth w h s)) t
       → (told a ≡ write_answer depth w h s t) × (u ≡ write_target depth w h s t)
   unfolding write_target
-  write_done u d e = (write_answer_lem, made_by_lem t _ (write_answer depth w h s t) (told a) write_answer_lem u d e)
+  write_done u d e = (
+    write_answer_lem,
+    made_by_lem t _ (write_answer depth w h s t) (told a) write_answer_lem u d e,
+  )
 
   pub write_refused : is_done (told a) ≡ false
       → (told a ≡ write_answer depth w h s t) × (t ≡ write_target depth w h s t)

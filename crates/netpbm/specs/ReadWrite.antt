@@ -25,7 +25,8 @@ read_answer depth f room = refuse (read_tests depth f room) (plain 0)
 unfoldable pub read_target : Depth → List ℕ → List ℕ → List ℕ
 read_target depth f t =
     unless_refused (read_answer depth f (length t)) t
-    (written depth (value_at depth (raster_of depth f) (pings_of depth f)) (pings_of depth f) (bins_of depth f) t)
+    (written depth (value_at depth (raster_of depth f) (pings_of depth f)) (pings_of depth f)
+    (bins_of depth f) t)
 
 -- what a read gives back: the answer, and W and H, or 0 for each where it is refused
 pub record GivenBack (answer-told : Told) (pings-read bins-read : ℕ) (r : Header) : Type 0 where

@@ -37,7 +37,8 @@ module _ (word beside : ℕ) (first second : Outline) (c v : ℕ) where
     cell_none l =
         sym (ap (λ b. cell_on word c && (cell_on beside (moved c o' o) && b))
         (place_out second.w c o' o v ev l)
-        ∙ ap (λ b. cell_on word c && b) (and-false (cell_on beside (moved c o' o))) ∙ and-false (cell_on word c))
+        ∙ ap (λ b. cell_on word c && b) (and-false (cell_on beside (moved c o' o)))
+        ∙ and-false (cell_on word c))
 
     pub cell_both : (b : Bool) → cell_on word c ≡ true → v < second.w → b ≡ cell_on beside v
         → b ≡ cell_shared word beside first second c
@@ -59,10 +60,12 @@ module _ (first : Outline) (words : List ℕ) (second : Outline) (others : List 
     pub line_none : second.h ≤ v → false ≡ line_shared first words second others r
     unfolding line_shared
     line_none l =
-        sym (ap (λ b. cond b (row_shared (get_or words r 0) (get_or others (moved r u' u) 0) first second) false)
+        sym (ap (λ b. cond b (row_shared (get_or words r 0) (get_or others (moved r u' u) 0) first second)
+        false)
         (place_out second.h r u' u v ev l))
 
-    pub line_both : (b : Bool) → v < second.h → b ≡ row_shared (get_or words r 0) (get_or others v 0) first second
+    pub line_both : (b : Bool) → v < second.h → b
+        ≡ row_shared (get_or words r 0) (get_or others v 0) first second
         → b ≡ line_shared first words second others r
     unfolding line_shared
     line_both b l q =

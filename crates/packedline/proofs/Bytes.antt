@@ -102,7 +102,8 @@ bytes_windows grows n m l bytes = by (leb m 1) (leb m 4)
         (widened_by (widen4_at grows) n (widened_by (widen1_at grows) n l))))
     by true t = bytes
     by false true = bytes_widened1 grows l bytes n
-    by false false = bytes_widened4 grows (widened_by (widen1_at grows) n l) (bytes_widened1 grows l bytes n) n
+    by false false = bytes_widened4 grows (widened_by (widen1_at grows) n l) (bytes_widened1 grows l bytes n)
+        n
 
 -- ---- the padded row
 pub neutral_lt : (grows : Bool) → start_by grows 255 < 256

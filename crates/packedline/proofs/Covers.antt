@@ -250,7 +250,8 @@ level_values word n h e =
     by (eqb word 0) refl (eqb (run_word (ones word) / 2 ^ count_leading_zeros 64 word) word) refl
     (leb (ones word) 4) refl (leb (ones word) 16) refl
   where
-    by : (p : Bool) → eqb word 0 ≡ p → (q : Bool) → eqb (run_word (ones word) / 2 ^ count_leading_zeros 64 word) word
+    by : (p : Bool) → eqb word 0 ≡ p → (q : Bool)
+        → eqb (run_word (ones word) / 2 ^ count_leading_zeros 64 word) word
         ≡ q → (r : Bool) → leb (ones word) 4 ≡ r → (s : Bool) → leb (ones word) 16 ≡ s
         → (n ≡ 1) ⊎ ((n ≡ 4) ⊎ (n ≡ 16))
     by true ep q eq r er s es = let z : n ≡ 0 = e ∙ simp ep in absurd (omega arith)
@@ -262,7 +263,8 @@ level_values word n h e =
 pos : (word : ℕ) → 0 < word → 0 < level_of word
 unfolding level_of
 pos word h =
-    by (eqb word 0) refl (eqb (run_word (ones word) / 2 ^ count_leading_zeros 64 word) word) (leb (ones word) 4)
+    by (eqb word 0) refl (eqb (run_word (ones word) / 2 ^ count_leading_zeros 64 word) word)
+    (leb (ones word) 4)
     (leb (ones word) 16)
   where
     by : (p : Bool) → eqb word 0 ≡ p → (q r s : Bool) → 0 < cond p 0 (cond q (cond r 1 (cond s 4 16)) 1)

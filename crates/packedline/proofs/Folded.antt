@@ -24,7 +24,8 @@ use Rattle.morphology.specs.Operations.{fold, moved, within}
 use Rattle.windows.specs.Steps.Bounds.{Bound}
 use Rattle.windows.specs.Steps.Widened.{widen1_at, widen4_at, widened_by, windows_of}
 use Rattle.windows.specs.Steps.Places.{joined_row}
-use Rattle.windows.proofs.Bounds.{bounds_same, fold_to, fold_from, fold_if_to, fold_if_from, fold_lt, fold_if_lt}
+use Rattle.windows.proofs.Bounds.{bounds_same, fold_to, fold_from, fold_if_to, fold_if_from, fold_lt}
+use Rattle.windows.proofs.Bounds.{fold_if_lt}
 use Rattle.windows.proofs.Bounds.{start_bound}
 use Rattle.windows.proofs.InPlace.{windows_1, windows_4, windows_16}
 use Rattle.windows.proofs.Seen.{Window, window_one, window_four, window4, window16}
@@ -41,7 +42,8 @@ module _ (grows : Bool) (m : ℕ) (l : List ℕ) (bytes : Bytes l) (fits : 64 * 
   one : (y : ℕ) → Window grows 1 (point_of l y) (point_of l) y
   one y = window_one grows (point_of l) y
 
-  four : (y : ℕ) → y / 8 < 64 * m → Window grows 4 (point_of (widened_by (widen1_at grows) m l) y) (point_of l) y
+  four : (y : ℕ) → y / 8 < 64 * m
+      → Window grows 4 (point_of (widened_by (widen1_at grows) m l) y) (point_of l) y
   four y h =
       subst (λ v. Window grows 4 v (point_of l) y) (sym (window4 grows m l bytes fits y h))
       (window_four grows 1 (point_of l) (point_of l) y (one y) (one (y + 1)) (one (y + 2)) (one (y + 3)))

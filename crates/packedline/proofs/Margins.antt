@@ -105,7 +105,8 @@ module _ (over grows : Bool) (s : List ℕ) (w : ℕ) (bytes : Bytes s) (some : 
   fits : 8 + length s ≤ length (replicate 194 (start_by grows 255))
   fits = omega (arith, long, len)
 
-  copied_in_lem : (i : ℕ) → i < length s → get_or (copied_of over grows s) (8 + i) 0 ≡ faced_byte over (get_or s i 0)
+  copied_in_lem : (i : ℕ) → i < length s → get_or (copied_of over grows s) (8 + i) 0
+      ≡ faced_byte over (get_or s i 0)
   unfolding copied_of
   copied_in_lem i h = get_in 8 (length s) _ (replicate 194 (start_by grows 255)) i fits h
 
@@ -115,7 +116,8 @@ module _ (over grows : Bool) (s : List ℕ) (w : ℕ) (bytes : Bytes s) (some : 
       get_before 8 (length s) _ (replicate 194 (start_by grows 255)) i (omega (arith, long)) h
       ∙ get_or-replicate 194 i (start_by grows 255) 0 (omega arith)
 
-  copied_past : (i : ℕ) → i < 194 → 8 + length s ≤ i → get_or (copied_of over grows s) i 0 ≡ start_by grows 255
+  copied_past : (i : ℕ) → i < 194 → 8 + length s ≤ i → get_or (copied_of over grows s) i 0
+      ≡ start_by grows 255
   unfolding copied_of
   copied_past i h k =
       get_after 8 (length s) _ (replicate 194 (start_by grows 255)) i (omega (arith, long)) k
@@ -130,7 +132,8 @@ module _ (over grows : Bool) (s : List ℕ) (w : ℕ) (bytes : Bytes s) (some : 
   padded_last : get_or (padded_of over grows s w) (8 + length s - 1) 0
       ≡ blotted_by grows (get_or (copied_of over grows s) (8 + length s - 1) 0) (spare_of (w % 8))
   unfolding padded_of
-  padded_last = get_or-set_same (copied_of over grows s) (8 + length s - 1) _ 0 (omega (arith, copied_long, len))
+  padded_last = get_or-set_same (copied_of over grows s) (8 + length s - 1) _ 0
+      (omega (arith, copied_long, len))
 
   pub padded_long : length (padded_of over grows s w) ≡ 194
   unfolding padded_of
@@ -164,7 +167,8 @@ module _ (over grows : Bool) (s : List ℕ) (w : ℕ) (bytes : Bytes s) (some : 
       ∙ ap (λ v. blotted_by grows v (spare_of (w % 8)))
       (ap (λ i. get_or (copied_of over grows s) i 0) (sym e) ∙ copied_in_lem (y / 8) (omega (arith, len))))
 
-  pub point_in : (y : ℕ) → y < w → point_of (padded_of over grows s w) (64 + y) ≡ faced_point over (point_of s y)
+  pub point_in : (y : ℕ) → y < w → point_of (padded_of over grows s w) (64 + y)
+      ≡ faced_point over (point_of s y)
   unfolding point_of
   point_in y h =
       split y
@@ -177,7 +181,8 @@ module _ (over grows : Bool) (s : List ℕ) (w : ℕ) (bytes : Bytes s) (some : 
       (below_or_not (8 + y / 8) (8 + length s - 1))
       ∙ faced_bit over (get_or s (y / 8) 0) (7 - y % 8) (bytes (y / 8)) (omega arith)
 
-  pub point_past : (y : ℕ) → w ≤ y → y < 1488 → point_of (padded_of over grows s w) (64 + y) ≡ start_by grows 1
+  pub point_past : (y : ℕ) → w ≤ y → y < 1488 → point_of (padded_of over grows s w) (64 + y)
+      ≡ start_by grows 1
   point_past y h room =
       split y
       ∙ ⊎_elim
@@ -191,9 +196,11 @@ module _ (over grows : Bool) (s : List ℕ) (w : ℕ) (bytes : Bytes s) (some : 
 -- the padded row as it is made
 pub padded_made : (over grows : Bool) (s : List ℕ) (w : ℕ) (b0 b1 b2 : List ℕ) → b0
     ≡ replicate 194 (start_by grows 255) → b1 ≡ laid 8 (length s) (λ i. faced_byte over (get_or s i 0)) b0
-    → b2 ≡ set b1 (8 + length s - 1) (blotted_by grows (get_or b1 (8 + length s - 1) 0) (spare_of (w % 8))) → b2
+    → b2 ≡ set b1 (8 + length s - 1) (blotted_by grows (get_or b1 (8 + length s - 1) 0) (spare_of (w % 8)))
+    → b2
     ≡ padded_of over grows s w
 unfolding padded_of copied_of
 padded_made over grows s w b0 b1 b2 e e1 e2 =
-    e2 ∙ ap (λ b. set b (8 + length s - 1) (blotted_by grows (get_or b (8 + length s - 1) 0) (spare_of (w % 8))))
+    e2 ∙ ap (λ b. set b (8 + length s - 1)
+    (blotted_by grows (get_or b (8 + length s - 1) 0) (spare_of (w % 8))))
     (e1 ∙ ap (laid 8 (length s) (λ i. faced_byte over (get_or s i 0))) e)

@@ -24,7 +24,8 @@ kept at n v j h = get_or-set_other at n j v 0 (λ e. absurd (omega arith))
 abbrev pub RunSo : ℕ → ℕ → ℕ → ℕ → ℕ → List ℕ → Type 0
 RunSo n wide from c count at =
     (length at ≡ 64) × (((j : ℕ) → j < count → (from ≤ get_or at j 0) × (get_or at j 0 + n ≤ from + wide))
-    × ((k : ℕ) → k < c → (j : ℕ) × ((j < count) × ((get_or at j 0 ≤ from + k) × (from + k < get_or at j 0 + n)))))
+    × ((k : ℕ) → k < c → (j : ℕ)
+    × ((j < count) × ((get_or at j 0 ≤ from + k) × (from + k < get_or at j 0 + n)))))
 
 pub run_none : (n wide from : ℕ) (at : List ℕ) → length at ≡ 64 → RunSo n wide from 0 0 at
 run_none n wide from at e = (e, ((λ j h. absurd (not-suc-le-zero h)), (λ k h. absurd (not-suc-le-zero h))))

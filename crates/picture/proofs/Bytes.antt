@@ -34,7 +34,8 @@ bytes_long depth A w h =
 pub alone : (depth : Depth) (A : Picture) (w h : ℕ) → written depth A w h [] ≡ bytes_of depth A w h
 unfolding written
 alone depth A w h =
-    ap (λ l. bytes_of depth A w h ++ l) (drop-nil (picture_bytes depth w h)) ∙ append-nil (bytes_of depth A w h)
+    ap (λ l. bytes_of depth A w h ++ l) (drop-nil (picture_bytes depth w h))
+    ∙ append-nil (bytes_of depth A w h)
 
 pub bytes_value : (depth : Depth) (A : Picture) (w h : ℕ)
     → ((x y : ℕ) → x < w → y < h → A x y ≤ top depth) → (x y : ℕ) → x < w → y < h

@@ -42,7 +42,8 @@ module _ (s : List ℕ) (w h : ℕ) (some : 1 ≤ w) where
   zero_clear each =
       all_of (last_clear s (row_bytes OneBit w) (2 ^ spare_bits OneBit w)) h
       (λ y l. eq-eqb _ 0 (clear_low (last y) (spare_bits OneBit w)
-      (λ k m. ap₂ (λ i j. bit (get_or s (y * row_bytes OneBit w + i) 0) j) (byte w k some m) (place w k some m)
+      (λ k m. ap₂ (λ i j. bit (get_or s (y * row_bytes OneBit w + i) 0) j) (byte w k some m)
+      (place w k some m)
       ∙ each (column w k) y (past w k some m) (row w k some m) l)))
     where
       column : ℕ → ℕ → ℕ
@@ -68,7 +69,8 @@ written_clear A w h t some small =
 -- of 8 bits there is no padding to be anything
 pub eight_clear : (s : List ℕ) (w h : ℕ) → padding_clear EightBit s w h ≡ true
 unfolding padding_clear lasts_clear
-eight_clear s w h = all_of (last_clear s w (2 ^ 0)) h (λ y l. eq-eqb _ 0 (none (get_or s (y * w + (w - 1)) 0)))
+eight_clear s w h = all_of (last_clear s w (2 ^ 0)) h
+    (λ y l. eq-eqb _ 0 (none (get_or s (y * w + (w - 1)) 0)))
   where
     none : (n : ℕ) → n % 2 ^ 0 ≡ 0
     none n = omega arith

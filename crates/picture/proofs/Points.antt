@@ -62,7 +62,8 @@ put_apart OneBit b x x' v same other = by (eqb v 0)
 
     by : (t : Bool) → bit (cond t (bit_and b (255 - 2 ^ p)) (bit_or b (2 ^ p))) q ≡ bit b q
     by true =
-        bit_and_lem b (255 - 2 ^ p) q ∙ omega (arith, spared p q (omega arith) (omega arith), none, bit_lt b q)
+        bit_and_lem b (255 - 2 ^ p) q
+        ∙ omega (arith, spared p q (omega arith) (omega arith), none, bit_lt b q)
     by false = bit_or_lem b (2 ^ p) q ∙ omega (arith, none)
 put_apart EightBit b x x' v same other = absurd (other same)
 
@@ -82,7 +83,8 @@ module _ (depth : Depth) (l : List ℕ) (w x y v : ℕ) (inside : byte_at depth 
       ∙ put_back depth (get_or l (byte_at depth w x y) 0) x v h
 
   -- every other column of every row stays: each point, and each bit of padding
-  pub put_other : (x' y' : ℕ) → column_byte depth x < row_bytes depth w → column_byte depth x' < row_bytes depth w
+  pub put_other : (x' y' : ℕ) → column_byte depth x < row_bytes depth w → column_byte depth x'
+      < row_bytes depth w
       → ((x ≡ x') × (y ≡ y') → ⊥)
       → value_at depth (put_at depth l w x y v) w x' y' ≡ value_at depth l w x' y'
   unfolding value_at put_at
@@ -111,7 +113,8 @@ module _ (depth : Depth) (A : Picture) (w h : ℕ) (t : List ℕ)
   unfolding written bytes_of
   byte_is x y hx hy =
       get_d_joined (λ y. row_of depth (λ x. A x y) w) (row_bytes depth w)
-      (λ y. row_length depth (λ x. A x y) w) h y (column_byte depth x) (drop (picture_bytes depth w h) t) hy hx
+      (λ y. row_length depth (λ x. A x y) w) h y (column_byte depth x) (drop (picture_bytes depth w h) t) hy
+      hx
 
   -- each point reads back
   pub written_value : (x y : ℕ) → x < w → y < h → value_at depth (written depth A w h t) w x y ≡ A x y

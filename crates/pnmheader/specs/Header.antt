@@ -8,7 +8,8 @@
 --   last, part 6 of PBM and part 8 of PGM: a single white space, after which the raster begins.
 -- Before that white space a comment, from # through the next line feed or
 -- carriage return, is ignored wherever it stands, also in the middle of a number.
-use Rattle.std.specs.Prelude.{ℕ, ◌+◌, ◌-◌, ◌*◌, ◌%◌, Bool, true, false, not, cond, ◌&&◌, ◌||◌, List, [], ◌∷◌, leb, eqb, get_or, drop}
+use Rattle.std.specs.Prelude.{ℕ, ◌+◌, ◌-◌, ◌*◌, ◌%◌, Bool, true, false, not, cond, ◌&&◌, ◌||◌, List, []}
+use Rattle.std.specs.Prelude.{◌∷◌, leb, eqb, get_or, drop}
 use Rattle.picture.specs.declared.Depth.{Depth}
 use Rattle.picture.specs.declared.Depth.TheVariants.{OneBit, EightBit}
 use Rattle.pnmheader.specs.declared.Scan.{Scan}

@@ -70,7 +70,8 @@ spread_bit acc line cells (suc n) X h =
     (cell_on cells n && (leb n X && on line (X - n)))
     ∙ ap (λ t. on acc X || t) (sym (any_step (λ c. cell_on cells c && (leb c X && on line (X - c))) n))
 
-line_bit : (board : List ℕ) (y r k : ℕ) → on (line_of board y r) k ≡ (leb r y && on (get_or board (y - r) 0) k)
+line_bit : (board : List ℕ) (y r k : ℕ) → on (line_of board y r) k
+    ≡ (leb r y && on (get_or board (y - r) 0) k)
 unfolding line_of
 line_bit board y r k = by (leb r y)
   where
@@ -140,7 +141,8 @@ cut_bit board cells w h cut X Y small =
     none a true = refl
     none a false = refl
 
-    by : (s t : Bool) → on (cond s (cond t (bit_and line mask) 0) 0) X ≡ ((on mask X && (s && t)) && on line X)
+    by : (s t : Bool) → on (cond s (cond t (bit_and line mask) 0) 0) X
+        ≡ ((on mask X && (s && t)) && on line X)
     by true true = on_and line mask X ∙ swap (on line X) (on mask X)
     by true false = on_none X ∙ none (on line X) (on mask X)
     by false true = on_none X ∙ none (on line X) (on mask X)

@@ -38,7 +38,8 @@ spread_none acc line cells = refl
 pub spread_more : (acc line cells c a m : ℕ) → a ≡ spread_of acc line cells c → m ≡ moved_of line cells c
     → bit_or a m ≡ spread_of acc line cells (c + 1)
 unfolding spread_of
-spread_more acc line cells c a m e e' = ap₂ bit_or e e' ∙ ap (λ n. spread_of acc line cells n) (sym (add-one c))
+spread_more acc line cells c a m e e' = ap₂ bit_or e e'
+    ∙ ap (λ n. spread_of acc line cells n) (sym (add-one c))
 
 pub spread_all : (acc line cells c w a : ℕ) → a ≡ spread_of acc line cells c → c ≡ w
     → a ≡ spread_of acc line cells w
@@ -247,7 +248,8 @@ module _ (links : List Link) (k : ℕ) (i : ℕ) (few : k ≤ length links) (mor
           to_words =
               ap (words_from m _ _ (drop (i + 1) (take k links))) e
               ∙ sym (ap (λ t. words_from m column row t words) rest_is) ∙ r.to_words;
-          to_column = further column _ _ ∙ sym (ap (λ t. column + back_x (shapes_of t)) rest_is) ∙ r.to_column;
+          to_column = further column _ _ ∙ sym (ap (λ t. column + back_x (shapes_of t)) rest_is)
+              ∙ r.to_column;
           to_row = further row _ _ ∙ sym (ap (λ t. row + back_y (shapes_of t)) rest_is) ∙ r.to_row;
         }
       where

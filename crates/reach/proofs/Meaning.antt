@@ -15,7 +15,8 @@ use Rattle.reach.specs.declared.Link.{Link}
 use Rattle.element.specs.Shape.{Shape}
 use Rattle.morphology.specs.Step.{Place}
 use Rattle.morphology.specs.Chain.{AllFit, most_link_cells, most_links}
-use Rattle.morphology.specs.Check.{still, between_test, sum_test, path_test, total, back_x, back_y, forth_x, forth_y}
+use Rattle.morphology.specs.Check.{still, between_test, sum_test, path_test, total, back_x, back_y}
+use Rattle.morphology.specs.Check.{forth_x, forth_y}
 use Rattle.basics.proofs.Truth.{and_intro}
 use Rattle.morphology.proofs.Places.{Walk}
 use Rattle.morphology.proofs.Tests.{walk_sound, walk_complete, sum_sound, sum_complete}
@@ -108,7 +109,8 @@ module _ (es : List Link) (few : length es ≤ most_links) (small : AllFit most_
   shapes_long [] = refl
   shapes_long (e ∷ es) = ap suc (shapes_long es)
 
-  span : (back_x (shapes_of es) + forth_x (shapes_of es) ≤ 35) × (back_y (shapes_of es) + forth_y (shapes_of es) ≤ 35)
+  span : (back_x (shapes_of es) + forth_x (shapes_of es) ≤ 35)
+      × (back_y (shapes_of es) + forth_y (shapes_of es) ≤ 35)
   span = let s = short_span (shapes_of es) small in let n = shapes_long es in (omega arith, omega arith)
 
   pub origin_small : Small (record { column = back_x (shapes_of es); row = back_y (shapes_of es) })
@@ -139,7 +141,8 @@ module _ (es : List Link) (few : length es ≤ most_links) (small : AllFit most_
         (words_agree m es (omega arith) (omega arith))
         (λ X Y st. (
           λ hx hy. same_test _ b (λ t.
-              from (board_walk (in_bounds m) (shapes_of es) X Y (place_of e) (omega arith) (omega arith) st t))
+              from (board_walk (in_bounds m) (shapes_of es) X Y (place_of e) (omega arith) (omega arith) st
+              t))
               (λ t. walk_board (in_bounds m) (shapes_of es) X Y (place_of e)
               (omega arith) (omega arith) st (to t)),
           λ out. far (inr (⊎_elim (λ h. inl (omega arith)) (λ h. inr (omega arith)) out)),

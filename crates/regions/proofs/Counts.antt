@@ -47,7 +47,8 @@ module _ (R : ℕ → ℕ) where
   length_step I x true = sym (length-append I (x ∷ []))
   length_step I x false = omega arith ∙ ap length (sym (append-nil I))
 
-  inner_opened : (i : ℕ) → inner_of R i ++ cond (eqb (R (i + 1)) (i + 1)) ((i + 1) ∷ []) [] ≡ inner_of R (suc i)
+  inner_opened : (i : ℕ) → inner_of R i ++ cond (eqb (R (i + 1)) (i + 1)) ((i + 1) ∷ []) []
+      ≡ inner_of R (suc i)
   unfolding inner_of
   inner_opened i = refl
 

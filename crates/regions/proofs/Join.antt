@@ -65,7 +65,8 @@ module _ (l : List ℕ) (a b : ℕ) (a_in : a < length l) (b-in : b < length l) 
       put_root l g m (omega arith) (omega (arith, root_le l a, root_le l b)) r.0 r.1 i
 
   -- what was the same stays the same, and a and b become the same
-  pub united_keeps : (i j : ℕ) → root_of l i ≡ root_of l j → root_of (united l a b) i ≡ root_of (united l a b) j
+  pub united_keeps : (i j : ℕ) → root_of l i ≡ root_of l j → root_of (united l a b) i
+      ≡ root_of (united l a b) j
   united_keeps i j e = united_root i ∙ ap (moved g m) e ∙ sym (united_root j)
 
   moved_both : (p q : ℕ) → moved (max p q) (min p q) p ≡ min p q

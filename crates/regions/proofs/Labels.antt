@@ -111,7 +111,8 @@ module _ (w h : ℕ) (A : ℕ → ℕ) (some : 0 < w) (i : ℕ) (i-in : i < h * 
     point_makes n (by_outer e) = subst (Same (mates_united A w h i l 5) (i + 1)) e (mates_make 5 0 (lit< tt))
     point_makes n (by_left e) = subst (Same (mates_united A w h i l 5) (i + 1)) e (mates_make 5 1 (lit< tt))
     point_makes n (by_up e) = subst (Same (mates_united A w h i l 5) (i + 1)) e (mates_make 5 2 (lit< tt))
-    point_makes n (by_up_left e) = subst (Same (mates_united A w h i l 5) (i + 1)) e (mates_make 5 3 (lit< tt))
+    point_makes n (by_up_left e) =
+        subst (Same (mates_united A w h i l 5) (i + 1)) e (mates_make 5 3 (lit< tt))
     point_makes n (by_up_right e) =
         subst (Same (mates_united A w h i l 5) (i + 1)) e (mates_make 5 4 (lit< tt))
 
@@ -216,7 +217,8 @@ labels_first s w h l some k =
     }
   where
     holds : (a : ℕ) → a ≤ h * w
-        → get_or (flat_to (united_to (point_of s w) w h (alone l (h * w + 1)) (h * w)) (h * w + 1)) a 0 ≡ root_of
+        → get_or (flat_to (united_to (point_of s w) w h (alone l (h * w + 1)) (h * w)) (h * w + 1)) a 0
+        ≡ root_of
         (united_to (point_of s w) w h (alone l (h * w + 1)) (h * w)) a
     holds a t =
         let g = to_good w h (point_of s w) some (alone l (h * w + 1)) (alone_good w h (point_of s w) l k)

@@ -122,7 +122,8 @@ module _ (l : List ℕ) (g : ℕ) (in_List : g < length l) where
   flat_at : root_of l' g ≡ root_of l g
   flat_at =
       ⊎_elim
-      (λ e. root_stop l' g (subst (λ v. g ≤ v) (sym (get_or-set_same l g (root_of l g) 0 in_List)) (omega arith))
+      (λ e. root_stop l' g (subst (λ v. g ≤ v) (sym (get_or-set_same l g (root_of l g) 0 in_List))
+      (omega arith))
       ∙ sym e)
       (λ ne.
       root_turn l' g (subst (λ v. v < g) (sym (get_or-set_same l g (root_of l g) 0 in_List))
@@ -166,7 +167,8 @@ flat_roots l zero h i = refl
 flat_roots l (suc n) h i = flat_root (flat_to l n) n (omega (arith, length_flat l n)) i
     ∙ flat_roots l n (omega arith) i
 
-pub flat_holds : (l : List ℕ) (n : ℕ) → n ≤ length l → (i : ℕ) → i < n → get_or (flat_to l n) i 0 ≡ root_of l i
+pub flat_holds : (l : List ℕ) (n : ℕ) → n ≤ length l → (i : ℕ) → i < n → get_or (flat_to l n) i 0
+    ≡ root_of l i
 unfolding flat_to
 flat_holds l zero h i k = absurd (omega arith)
 flat_holds l (suc n) h i k =

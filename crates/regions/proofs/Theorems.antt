@@ -18,7 +18,8 @@ use Rattle.regions.proofs.Parents.{after_parent}
 use Rattle.regions.proofs.Firsts.{first_low, first_twice}
 
 -- sums of lines
-seconds_append : (k : ℕ) (l m : List ℕ) → length l ≡ 2 * k → seconds_sum (l ++ m) ≡ seconds_sum l + seconds_sum m
+seconds_append : (k : ℕ) (l m : List ℕ) → length l ≡ 2 * k → seconds_sum (l ++ m) ≡ seconds_sum l
+    + seconds_sum m
 unfolding seconds_sum
 seconds_append zero [] m e = omega arith
 seconds_append zero (a ∷ l) m e = absurd (omega arith)

@@ -77,10 +77,12 @@ inner_step F I x true =
     (ap F (sym (get_or-append_seam I x [] 0)))
     ∙ sym (joined_more (λ k. F (get_or (I ++ (x ∷ [])) k 0)) (length I))
     ∙ ap (joined (λ k. F (get_or (I ++ (x ∷ [])) k 0))) (sym (length-append I (x ∷ [])))
-inner_step F I x false = append-nil _ ∙ ap (λ J. joined (λ k. F (get_or J k 0)) (length J)) (sym (append-nil I))
+inner_step F I x false = append-nil _
+    ∙ ap (λ J. joined (λ k. F (get_or J k 0)) (length J)) (sym (append-nil I))
 
 pub inner_joined : (R : ℕ → ℕ) (F : ℕ → List ℕ) (n : ℕ)
-    → joined (λ i. cond (eqb (R (i + 1)) (i + 1)) (F (i + 1)) []) n ≡ joined (λ k. F (get_or (inner_of R n) k 0))
+    → joined (λ i. cond (eqb (R (i + 1)) (i + 1)) (F (i + 1)) []) n
+    ≡ joined (λ k. F (get_or (inner_of R n) k 0))
     (length (inner_of R n))
 unfolding joined inner_of
 inner_joined R F zero = refl
@@ -105,7 +107,8 @@ inner_low R (suc n) k h = by (eqb (R (n + 1)) (n + 1)) h (λ l. inner_low R n k 
         let e = get_or-append (inner_of R n) ((n + 1) ∷ []) 0 k l in
         let r = rec l in (omega (arith, e, r.0), omega (arith, e, r.1)))
         (λ l.
-        let q : k ≡ length (inner_of R n) = omega (arith, l, h, length-append (inner_of R n) ((n + 1) ∷ [])) in
+        let q : k ≡ length (inner_of R n) =
+        omega (arith, l, h, length-append (inner_of R n) ((n + 1) ∷ [])) in
         let e = ap (λ k. get_or (inner_of R n ++ ((n + 1) ∷ [])) k 0) q
         ∙ get_or-append_seam (inner_of R n) (n + 1) [] 0 in
         (omega (arith, e), omega (arith, e)))
@@ -133,7 +136,8 @@ module _ (note : ℕ → ℕ → List ℕ) (R : ℕ → ℕ) (w n : ℕ) (low : 
       (joined_same _ (λ i. cond (eqb (R (i + 1)) (i + 1)) (whole r d (i + 1)) []) n
       (λ i t. where_same R w n low note r (i + 1) _ _ (λ p. walk_enough R w n low note n (n + 1) (i + 1)
       (d + 1) (omega arith) (omega arith) (omega arith)))
-      ∙ inner_joined R (whole r d) n ∙ ap (λ I. joined (λ k. whole r d (get_or I k 0)) (length I)) (sym inner))
+      ∙ inner_joined R (whole r d) n
+      ∙ ap (λ I. joined (λ k. whole r d (get_or I k 0)) (length I)) (sym inner))
 
   pub walk_children : (r d : ℕ) → r ≤ n → walk note R w n (n + 1) r d ≡ note r d ++ joined
       (child note R w n I r d) (length I)

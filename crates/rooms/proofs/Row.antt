@@ -17,7 +17,8 @@ use Rattle.blocks.proofs.Laid.{laid_none, laid_same, still, get_first, laid_over
 pub got : (f : ℕ → ℕ) (l : List ℕ) → l ≡ firsts f 64 → (j : ℕ) → j < 64 → get_or l j 0 ≡ f j
 got f l e j h = ap (λ m. get_or m j 0) e ∙ get_d_firsts f 64 j h
 
-pub block_got : (b c : List ℕ) (i : ℕ) → c ≡ block_of b i → (j : ℕ) → j < 64 → get_or c j 0 ≡ get_or b (i + j) 0
+pub block_got : (b c : List ℕ) (i : ℕ) → c ≡ block_of b i → (j : ℕ) → j < 64 → get_or c j 0
+    ≡ get_or b (i + j) 0
 unfolding block_of
 block_got b c i e j h = got (λ j. get_or b (i + j) 0) c e j h
 
@@ -75,7 +76,8 @@ module _ (F : ℕ → ℕ → ℕ) (t : List ℕ) where
       (λ j h. got _ e ee j (omega arith)
       ∙ ap₂ F (ap (λ l. get_or l j 0) ec
       ∙ get_first (length t) (λ m. get_or t (0 + m) 0) (replicate 64 0) j
-      (subst (λ m. length t ≤ m) (sym (length-replicate {A = ℕ} 64 0)) few) h ∙ ap (λ m. get_or t m 0) (none j))
+      (subst (λ m. length t ≤ m) (sym (length-replicate {A = ℕ} 64 0)) few) h
+      ∙ ap (λ m. get_or t m 0) (none j))
       (none j))
     where
       none : (j : ℕ) → 0 + j ≡ j

@@ -36,7 +36,8 @@ block_piece grows i s at t c d u h ec ed ea eu =
     eu ∙ ap (λ a. laid a 64 (λ j. get_or d j 0) t) ea
     ∙ laid_same (put_of grows i (i + s)) 64 _ _ t (put_fits grows i s 64 (length t) h)
     (λ j l. ap (λ k. get_or k j 0) ed ∙ get_d_firsts _ 64 j l
-    ∙ ap (λ b. join_packed grows b (get_or t (i + s + j) 0)) (ap (λ k. get_or k j 0) ec ∙ get_d_firsts _ 64 j l))
+    ∙ ap (λ b. join_packed grows b (get_or t (i + s + j) 0))
+    (ap (λ k. get_or k j 0) ec ∙ get_d_firsts _ 64 j l))
 
 pub byte_piece : (grows : Bool) (i s at v : ℕ) (t : List ℕ) → i + s + 1 ≤ length t
     → at ≡ put_of grows i (i + s) → v ≡ join_packed grows (get_or t i 0) (get_or t (i + s) 0)

@@ -81,7 +81,8 @@ module _ (A : Picture) (w h : ℕ) (small : Bounded 1 (frame w h) A) (t : List �
       back : (a b : ℕ) → a ≤ b → a + (b - a) ≡ b
       back a b k = omega arith
 
-  pub written_rest : (i : ℕ) → picture_bytes OneBit w h ≤ i → get_or (written OneBit A w h t) i 0 ≡ get_or t i 0
+  pub written_rest : (i : ℕ) → picture_bytes OneBit w h ≤ i → get_or (written OneBit A w h t) i 0
+      ≡ get_or t i 0
   unfolding written
   written_rest i k =
       ap (λ m. get_or (written OneBit A w h t) m 0) (home _ _ i (bytes_long OneBit A w h) k)

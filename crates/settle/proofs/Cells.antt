@@ -51,7 +51,8 @@ module _ (c : Cell) (l : List ℕ) (bytes : Bytes l) (fits : Fits c (length l)) 
       ≡ max (max (bit (across_of l (c.y * c.n) c.n c.j c.k) p) (bit (above_of c l) p))
       (bit (below_of c l) p)
   unfolding around_of
-  parts = bit_or_lem _ (below_of c l) p ∙ ap (λ x. max x (bit (below_of c l) p)) (bit_or_lem _ (above_of c l) p)
+  parts = bit_or_lem _ (below_of c l) p
+      ∙ ap (λ x. max x (bit (below_of c l) p)) (bit_or_lem _ (above_of c l) p)
 
   above_least : (b : ℕ)
       → ((x y : ℕ) → x < 8 * c.n → y < c.h → Touch c.square x y at c.y → point_in l (y * c.n) x ≤ b)

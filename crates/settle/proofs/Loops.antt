@@ -41,8 +41,10 @@ still_flooded m o c v i (suc d) e q =
 
 -- eight bytes in pairs are the word of eight
 pub eight_is : (l : List ℕ) (at b0 b1 b2 b3 b4 b5 b6 b7 p q r s u v z : ℕ)
-    → (b0 ≡ get_or l at 0) × (b1 ≡ get_or l (at + 1) 0) × (b2 ≡ get_or l (at + 2) 0) × (b3 ≡ get_or l (at + 3) 0)
-    → (b4 ≡ get_or l (at + 4) 0) × (b5 ≡ get_or l (at + 5) 0) × (b6 ≡ get_or l (at + 6) 0) × (b7 ≡ get_or l (at + 7)
+    → (b0 ≡ get_or l at 0) × (b1 ≡ get_or l (at + 1) 0) × (b2 ≡ get_or l (at + 2) 0)
+    × (b3 ≡ get_or l (at + 3) 0)
+    → (b4 ≡ get_or l (at + 4) 0) × (b5 ≡ get_or l (at + 5) 0) × (b6 ≡ get_or l (at + 6) 0)
+    × (b7 ≡ get_or l (at + 7)
     0)
     → (p ≡ b0 * 2 ^ 8 + b1) × (q ≡ b2 * 2 ^ 8 + b3) × (r ≡ b4 * 2 ^ 8 + b5) × (s ≡ b6 * 2 ^ 8 + b7)
     → (u ≡ p * 2 ^ 16 + q) × (v ≡ r * 2 ^ 16 + s) × (z ≡ u * 2 ^ 32 + v)
@@ -54,7 +56,8 @@ eight_is l at b0 b1 b2 b3 b4 b5 b6 b7 p q r s u v z f g e d =
 
 -- the one point before a word, at its top
 pub sides_machine : (v b a k : ℕ) → 1 ≤ k → k ≤ 8
-    → bit_or (bit_or (bit_or (bit_or v (v / 2)) (v * 2 % 2 ^ 64)) (bit_and b 1 * 2 ^ (8 * k - 1) % 2 ^ 64)) (a /
+    → bit_or (bit_or (bit_or (bit_or v (v / 2)) (v * 2 % 2 ^ 64)) (bit_and b 1 * 2 ^ (8 * k - 1) % 2 ^ 64))
+    (a /
     2 ^ 7)
     ≡ sides v (b % 2) (a / 2 ^ 7) k
 unfolding sides

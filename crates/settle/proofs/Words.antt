@@ -29,7 +29,8 @@ module _ (l : List ℕ) (bytes : Bytes l) where
   unfolding word_of
   word_lt at k = digits_below 8 (λ i. get_or l (at + i) 0) (λ i. bytes (at + i)) k
 
-  pub word_bit : (at j k p : ℕ) → p < 8 * k → bit (word_of l (at + j) k) p ≡ point_in l at (8 * (j + k) - 1 - p)
+  pub word_bit : (at j k p : ℕ) → p < 8 * k → bit (word_of l (at + j) k) p
+      ≡ point_in l at (8 * (j + k) - 1 - p)
   unfolding word_of
   word_bit at j k p h =
       ap (bit (digits 8 (λ i. get_or l (at + j + i) 0) k)) (back k p h)
@@ -252,4 +253,5 @@ module _ (l : List ℕ) (bytes : Bytes l) (at n j k : ℕ) (some : 1 ≤ k) (few
   unfolding spread_of
   spread_holds true z hz near = across_holds z hz near
   spread_holds false z hz near =
-      subst (λ v. point_in l at z ≤ v) (ap (point_in l at) near ∙ sym (word_bit l bytes at j k p h)) (le_refl _)
+      subst (λ v. point_in l at z ≤ v) (ap (point_in l at) near ∙ sym (word_bit l bytes at j k p h))
+      (le_refl _)

@@ -27,7 +27,8 @@ use Rattle.share.proofs.Steps.{or_left, numbered}
 
 module _ (N : ℕ) (s : List ℕ) (n k : ℕ) (e : k ≡ length_at s n) where
   pub entry_none : k ≡ 0 → true ≡ entry_made N s n
-  entry_none z = ap (λ (t : Bool). t || well_made (held_at N s n)) (sym (eq-eqb (length_at s n) 0 (sym e ∙ z)))
+  entry_none z = ap (λ (t : Bool). t || well_made (held_at N s n))
+      (sym (eq-eqb (length_at s n) 0 (sym e ∙ z)))
 
   module _ (t : ℕ) (q : t ≡ sum_to (length_at s) n) where
     pub entry_end : Within N n s → 2 * N + t + k ≤ length s
@@ -47,7 +48,8 @@ module _ (N : ℕ) (s : List ℕ) (n k : ℕ) (e : k ≡ length_at s n) where
     place_is w = (ap (λ i. 2 * N + i) q, let h = entry_end w in omega arith)
 
 -- the sum first, then each entry
-pub share_full : (N M : ℕ) (s : List ℕ) (t : ℕ) → t ≡ sum_to (length_at s) N → M < t → false ≡ share_made N M s
+pub share_full : (N M : ℕ) (s : List ℕ) (t : ℕ) → t ≡ sum_to (length_at s) N → M < t → false
+    ≡ share_made N M s
 unfolding share_made
 share_full N M s t e h =
     ap (λ (b : Bool). b && all (entry_made N s) N) (sym
@@ -161,7 +163,8 @@ put_fits N M s n d t w e z =
       grown = omega (arith, w.long);
     }
 
-pub got_below : (N M : ℕ) (m : Map) (n : ℕ) (t : Told) → t ≡ map_answer N M m (Get n) → is_done t ≡ true → n < N
+pub got_below : (N M : ℕ) (m : Map) (n : ℕ) (t : Told) → t ≡ map_answer N M m (Get n) → is_done t ≡ true → n
+    < N
 got_below N M m n t e z =
     let none = none_of (tests N M m (Get n)) (numbered N M m (Get n)) (sym (ap is_done e) ∙ z) in
     leb-false N n (or_left (leb N n) (eqb (length (m n)) 0) none.0)

@@ -82,10 +82,12 @@ module _ (N : ℕ) (s : List ℕ) where
         (ap (λ i. sum_to (length_at s) (suc i)) (sym e))))))
         (λ l.
         ap₂ (λ a b. a ++ b) (joined_with k l) (with_other (held_at N s) n d k (λ q. omega arith))
-        ∙ append_assoc (joined (held_at N s) n) (d ++ rest_to (sum_to (length_at s) (suc n)) k) (held_at N s k)
+        ∙ append_assoc (joined (held_at N s) n) (d ++ rest_to (sum_to (length_at s) (suc n)) k)
+        (held_at N s k)
         ∙ ap (λ r. joined (held_at N s) n ++ r) (append_assoc d (rest_to (sum_to (length_at s) (suc n)) k)
         (held_at N s k)
-        ∙ ap (λ r. d ++ r) (rest_more (sum_to (length_at s) (suc n)) k (sum_rises (length_at s) (suc n) k l))))
+        ∙ ap (λ r. d ++ r) (rest_more (sum_to (length_at s) (suc n)) k
+        (sum_rises (length_at s) (suc n) k l))))
         (eq-or-lt_of_le (le_of_suc-le-suc h))
 
 -- ---- the lengths
@@ -228,7 +230,8 @@ module _ (N n : ℕ) (s d : List ℕ) (w : Fits N n s d) (bytes : (i : ℕ) → 
         (omega (arith, w.fits), omega (arith, w.grown))
 
     -- the moved bytes are the descriptors of the higher numbers
-    mid_is : mid_of (2 * N + t + o) (2 * N + a - (2 * N + t + o)) s ≡ rest_to N s (sum_to (length_at s) (suc n)) N
+    mid_is : mid_of (2 * N + t + o) (2 * N + a - (2 * N + t + o)) s
+        ≡ rest_to N s (sum_to (length_at s) (suc n)) N
     unfolding rest_to sum_to
     mid_is =
         ap₂ (λ i j. take i (drop j s)) (count N t o a) (place N t o)

@@ -207,7 +207,8 @@ pub length_replicate : (n z : ℕ) → length (replicate n z) ≡ n
 length_replicate zero z = refl
 length_replicate (suc n) z = ap suc (length_replicate n z)
 
-pub cleared_holds : (N M : ℕ) (s : List ℕ) (m : Map) → Holds N M s m → Holds N M (cleared (place_of N s N) s) m
+pub cleared_holds : (N M : ℕ) (s : List ℕ) (m : Map) → Holds N M s m
+    → Holds N M (cleared (place_of N s N) s) m
 unfolding cleared place_of
 cleared_holds N M s m h =
     let a = holds_sum N M s m h N (omega arith) in

@@ -36,7 +36,8 @@ module _ (from to : ℕ) where
   fewer n j (inl h) = inl h
   fewer n j (inr h) = inr (omega arith)
 
-  down_outside : (n : ℕ) (s : List ℕ) (j : ℕ) → Outside n j → get_or (slide_down from to n s) j 0 ≡ get_or s j 0
+  down_outside : (n : ℕ) (s : List ℕ) (j : ℕ) → Outside n j → get_or (slide_down from to n s) j 0
+      ≡ get_or s j 0
   unfolding slide_down
   down_outside zero s j o = refl
   down_outside (suc n) s j o =

@@ -53,7 +53,8 @@ module _ (N M : ℕ) (m k : Map) (each : (i : ℕ) → i < N → m i ≡ k i) wh
   same_tests Tidy = refl
 
   same_found : (c : Call)
-      → unless_refused (map_answer N M m c) [] (found m c) ≡ unless_refused (map_answer N M k c) [] (found k c)
+      → unless_refused (map_answer N M m c) [] (found m c)
+      ≡ unless_refused (map_answer N M k c) [] (found k c)
   same_found (Put n d) =
       ap (λ (ts : List Test). unless_refused (refuse ts (plain 0)) [] []) (same_tests (Put n d))
   same_found (Get n) = got_same (leb N n) (m n) (k n) (λ e. each n (leb-false N n e))

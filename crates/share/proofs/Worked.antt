@@ -24,7 +24,8 @@ got d = (plain 0, d)
 worked : map_replies 8 1000 empty (Put 0 cell ∷ Get 0 ∷ Remove 0 ∷ Get 0 ∷ Put 8 cell ∷ Put 8 [] ∷ Put 7 []
     ∷ Remove 0 ∷ Tidy ∷ [])
     ≡ said 0 ∷ got cell ∷ said 0 ∷ said 14 ∷ said 14 ∷ said 14 ∷ said 4 ∷ said 14 ∷ said 0 ∷ []
-unfolding cell said got plain unless_refused map_replies map_reply map_after sum_to well_made cells_made head_made
+unfolding cell said got plain unless_refused map_replies map_reply map_after sum_to well_made cells_made
+    head_made
     padding_clear lasts_clear all
 worked = refl
 
@@ -33,6 +34,7 @@ worked = refl
 reused : map_replies 2 9 empty (Put 0 cell ∷ Put 1 cell ∷ Put 0 cell ∷ Get 1 ∷ Remove 0 ∷ Put 1 cell ∷ Get
     1 ∷ Get 0 ∷ [])
     ≡ said 0 ∷ said 13 ∷ said 0 ∷ said 14 ∷ said 0 ∷ said 0 ∷ got cell ∷ said 14 ∷ []
-unfolding cell said got plain unless_refused map_replies map_reply map_after sum_to well_made cells_made head_made
+unfolding cell said got plain unless_refused map_replies map_reply map_after sum_to well_made cells_made
+    head_made
     padding_clear lasts_clear all
 reused = refl

@@ -2,7 +2,8 @@
 -- bytes.
 -- N lengths of two bytes, low byte first, 0 where nothing is held;
 -- then the held descriptors in number order with no gap; the rest is spare.
-use Rattle.std.specs.Prelude.{ℕ, zero, suc, ◌+◌, ◌-◌, ◌*◌, ◌/◌, ◌%◌, Bool, cond, ◌&&◌, ◌||◌, List, ◌++◌, leb, eqb, length, get_or, take, drop, replicate}
+use Rattle.std.specs.Prelude.{ℕ, zero, suc, ◌+◌, ◌-◌, ◌*◌, ◌/◌, ◌%◌, Bool, cond, ◌&&◌, ◌||◌, List, ◌++◌}
+use Rattle.std.specs.Prelude.{leb, eqb, length, get_or, take, drop, replicate}
 use Rattle.basics.specs.Lists.{firsts, joined}
 use Rattle.basics.specs.Tests.{all}
 use Rattle.element.specs.Descriptor.{well_made}

@@ -244,7 +244,8 @@ module _ (grows : Bool) (most : ℕ) (S : Picture) (w h : ℕ) (o : Outline) (wo
     on_to c hc q =
         ⊎_elim
         (λ l. (l, sym (ap (λ m. cell_on64 m c) is_IsWord ∙ masked_on (get_or words n 0) o.w c wide l) ∙ q))
-        (λ l. absurd (differ (sym (ap (λ m. cell_on64 m c) is_IsWord ∙ masked_off (get_or words n 0) o.w c l hc)
+        (λ l. absurd (differ (sym
+        (ap (λ m. cell_on64 m c) is_IsWord ∙ masked_off (get_or words n 0) o.w c l hc)
         ∙ q)))
         (below_or_not c o.w)
       where

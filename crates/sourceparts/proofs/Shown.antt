@@ -69,10 +69,12 @@ rooms_same grows kind far P R B same rooms =
 
 -- ---- windows of two
 two_seen : (grows : Bool) (P : ℕ → ℕ) (x : ℕ)
-    → Sees grows 2 (join_by grows (join_by grows (join_by grows (P x) (P (x + 1))) (P (x + 1))) (P (x + 1))) P x
+    → Sees grows 2 (join_by grows (join_by grows (join_by grows (P x) (P (x + 1))) (P (x + 1))) (P (x + 1)))
+    P x
 two_seen grows P x v = (to, from)
   where
-    to : Bound grows (join_by grows (join_by grows (join_by grows (P x) (P (x + 1))) (P (x + 1))) (P (x + 1))) v
+    to : Bound grows (join_by grows (join_by grows (join_by grows (P x) (P (x + 1))) (P (x + 1)))
+        (P (x + 1))) v
         → (k : ℕ) → k < 2 → Bound grows (P (x + k)) v
     to h k l =
         let a = join_to grows (join_by grows (join_by grows (P x) (P (x + 1))) (P (x + 1))) (P (x + 1)) v h in
@@ -90,7 +92,8 @@ two_seen grows P x v = (to, from)
         one x k h l = omega arith
 
     from : ((k : ℕ) → k < 2 → Bound grows (P (x + k)) v)
-        → Bound grows (join_by grows (join_by grows (join_by grows (P x) (P (x + 1))) (P (x + 1))) (P (x + 1))) v
+        → Bound grows (join_by grows (join_by grows (join_by grows (P x) (P (x + 1))) (P (x + 1)))
+        (P (x + 1))) v
     from each =
         let a = subst (λ n. Bound grows (P n) v) (none x) (each 0 (omega arith)) in
         let b = each 1 (omega arith) in

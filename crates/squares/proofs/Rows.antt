@@ -118,7 +118,8 @@ module _ (grows : Bool) (k w h : ℕ) (t₀ t : List ℕ) (n y : ℕ) (en : n �
         none i r = omega arith
 
     pub row_made : t ≡ rows_written OneBit R w t₀ y → (ys : List ℕ)
-        → ys ≡ row_of OneBit (λ x. swept_by grows flat 1 (frame w 1) (rect k 1) (value_at OneBit part w) x 0) w
+        → ys ≡ row_of OneBit (λ x. swept_by grows flat 1 (frame w 1) (rect k 1) (value_at OneBit part w) x 0)
+        w
         → ys ≡ row_of OneBit (λ x. R x y) w
     row_made e ys q =
         q ∙ row_same OneBit _ _ w (λ x hx.

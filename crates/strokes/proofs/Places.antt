@@ -48,7 +48,8 @@ module _ (grows : Bool) (o m count : ℕ) (at : List ℕ) where
   cells_all zero e = refl
   cells_all (suc n) e =
       ap (λ t. cond t (count, at) (cells_from grows o n (m - 2 ^ (63 - count_leading_zeros 64 m)
-      - mate_of m (count_leading_zeros 64 m)) (count + 1) (set at count (spot_at grows o m (count_leading_zeros 64 m)))))
+      - mate_of m (count_leading_zeros 64 m)) (count + 1)
+      (set at count (spot_at grows o m (count_leading_zeros 64 m)))))
       (eq-eqb m 0 e)
 
 -- ---- the windows of a run
@@ -59,7 +60,8 @@ module _ (n wide from c count : ℕ) (at : List ℕ) where
   unfolding run_from
   run_step v small h e =
       ap (λ k. run_from n wide from k c count at) (one_less count small)
-      ∙ ap (λ t. cond t (run_from n wide from (64 - (count + 1)) (c + n) (count + 1) (set at count (from + c)))
+      ∙ ap (λ t. cond t (run_from n wide from (64 - (count + 1)) (c + n) (count + 1)
+      (set at count (from + c)))
       (count + 1, set at count (from + wide - n))) (lt-ltb (c + n) wide h)
       ∙ ap (λ w. run_from n wide from (64 - (count + 1)) (c + n) (count + 1) (set at count w)) (sym e)
 
@@ -78,7 +80,8 @@ module _ (grows : Bool) (word o n : ℕ) (at : List ℕ) where
   unfolding places_from
   from_cells h =
       ap (λ t. cond t (cells_from grows o 64 word 0 at) (run_from n (ones word) (base_of n
-      + place_of grows o (end_cell grows (count_leading_zeros 64 word) (ones word))) 64 0 0 at)) (le-leb n 1 h)
+      + place_of grows o (end_cell grows (count_leading_zeros 64 word) (ones word))) 64 0 0 at))
+      (le-leb n 1 h)
 
   pub from_run : (c wide from : ℕ) → 1 < n → c ≡ count_leading_zeros 64 word → wide ≡ ones word
       → from ≡ base_of n + place_of grows o (end_cell grows c wide)
@@ -86,6 +89,7 @@ module _ (grows : Bool) (word o n : ℕ) (at : List ℕ) where
   unfolding places_from
   from_run c wide from h ec ew ef =
       ap (λ t. cond t (cells_from grows o 64 word 0 at) (run_from n (ones word) (base_of n
-      + place_of grows o (end_cell grows (count_leading_zeros 64 word) (ones word))) 64 0 0 at)) (lt-leb n 1 h)
+      + place_of grows o (end_cell grows (count_leading_zeros 64 word) (ones word))) 64 0 0 at))
+      (lt-leb n 1 h)
       ∙ ap₂ (λ w f. run_from n w f 64 0 0 at) (sym ew)
       (sym (ef ∙ ap₂ (λ c w. base_of n + place_of grows o (end_cell grows c w)) ec ew))

@@ -1,5 +1,6 @@
 -- The search: a link that divides what is left, and so on; back where there is none.
-use Rattle.std.specs.Prelude.{ℕ, zero, suc, ◌+◌, ◌-◌, ◌/◌, ◌%◌, min, Bool, false, cond, List, eqb, ltb, get_or, set, replicate}
+use Rattle.std.specs.Prelude.{ℕ, zero, suc, ◌+◌, ◌-◌, ◌/◌, ◌%◌, min, Bool, false, cond, List, eqb, ltb}
+use Rattle.std.specs.Prelude.{get_or, set, replicate}
 use Rattle.dividing.specs.Least.{least_from}
 use Rattle.dividing.specs.Board.{first_cell, last_cell}
 use Rattle.dividing.specs.Divide.{rest_of}

@@ -49,6 +49,7 @@ unfolding row_line item_of
 row_most OneBit f w some small =
     let R : ℕ → List ℕ = λ x. item_of OneBit (f x) x in
     omega (arith, length-append (joined R w) (line_feed ∷ []), joined_most R 1 w (λ i l. omega arith))
+row_most EightBit f zero some small = elim some [ ]
 row_most EightBit f (suc w) some small =
     let R : ℕ → List ℕ = λ x. item_of EightBit (f x) x in
     let first = most_three (f 0) (omega (arith, small 0 (omega arith))) in

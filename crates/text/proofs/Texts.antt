@@ -30,7 +30,8 @@ module _ (depth : Depth) (v x : ℕ) where
       ap decimal q
       ∙ sym (ap (λ d. item_of d v x) e ∙ ap (λ b. cond b [] (32 ∷ []) ++ decimal v) (eq-eqb x 0 z))
 
-  pub next_item : (n : ℕ) → depth ≡ EightBit → n ≡ v → (x ≡ 0 → ⊥) → (32 ∷ []) ++ decimal n ≡ item_of depth v x
+  pub next_item : (n : ℕ) → depth ≡ EightBit → n ≡ v → (x ≡ 0 → ⊥) → (32 ∷ []) ++ decimal n
+      ≡ item_of depth v x
   unfolding item_of
   next_item n e q z =
       ap (λ k. (32 ∷ []) ++ decimal k) q

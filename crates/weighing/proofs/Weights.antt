@@ -32,7 +32,8 @@ zip_zero grows g e (x ∷ l) (b ∷ bs) bytes =
     ap₂ (λ (v : ℕ) (t : List ℕ). join_by grows x v ∷ t) (sym (weigh_zero grows g b e (omega arith)))
     (zip_zero grows g e l bs (λ i. bytes (suc i)))
 
-pub joined_plain : (grows : Bool) (g : ℕ) (l bs u : List ℕ) → g ≡ 0 → Bytes bs → u ≡ zip_in (join_by grows) l bs
+pub joined_plain : (grows : Bool) (g : ℕ) (l bs u : List ℕ) → g ≡ 0 → Bytes bs → u
+    ≡ zip_in (join_by grows) l bs
     → u ≡ zip_in (λ a b. join_by grows a (weigh_by grows g b)) l bs
 joined_plain grows g l bs u q bytes e = e ∙ zip_zero grows g q l bs bytes
 

@@ -24,7 +24,8 @@ pub join_lt : (grows : Bool) (k a b : ℕ) → a < 2 ^ k → b < 2 ^ k → join_
 join_lt true k a b h g = or_lt k a b h g
 join_lt false k a b h g = and_lt k a b h g
 
-by_assoc : (grows : Bool) (a b c : ℕ) → join_by grows a (join_by grows b c) ≡ join_by grows (join_by grows a b) c
+by_assoc : (grows : Bool) (a b c : ℕ) → join_by grows a (join_by grows b c)
+    ≡ join_by grows (join_by grows a b) c
 by_assoc true a b c = omega arith
 by_assoc false a b c = omega arith
 

@@ -53,7 +53,8 @@ row_point_lem grows b at t bytes x h =
     ap (λ v. bit v (7 - x % 8))
     (get_first (length t) _ t (x / 8) (omega arith) h)
     ∙ byte_point grows (get_or t (x / 8) 0) b bytes (x / 8) at (x % 8) (omega arith) (length at)
-    ∙ ap (λ y. fold (join_by grows) (point_of t x) (λ j. point_of b (y + get_or at j 0)) (length at)) (whole x)
+    ∙ ap (λ y. fold (join_by grows) (point_of t x) (λ j. point_of b (y + get_or at j 0)) (length at))
+    (whole x)
   where
     whole : (x : ℕ) → x / 8 * 8 + x % 8 ≡ x
     whole x = omega arith

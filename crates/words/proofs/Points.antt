@@ -199,6 +199,7 @@ eight_laid from v t p0 p1 p2 p3 p4 p5 p6 p7 room e0 e1 e2 e3 e4 e5 e6 e7 =
     e5) e6)
     e7
   where
-    more : (n : ℕ) (u : List ℕ) (p : ℕ) → from + n < length t → u ≡ laid from n (byte_of v) t → p ≡ byte_of v n
+    more : (n : ℕ) (u : List ℕ) (p : ℕ) → from + n < length t → u ≡ laid from n (byte_of v) t → p
+        ≡ byte_of v n
         → set u (from + n) p ≡ laid from (n + 1) (byte_of v) t
     more n u p l so q = laid_more from n (byte_of v) t u p l so q

@@ -1,5 +1,6 @@
 -- The padded row in two rooms of packed points, and what they show of it, where n blocks were made.
-use Rattle.std.specs.Prelude.{ℕ, ◌+◌, ◌-◌, ◌*◌, ◌%◌, ◌≤◌, ◌≡◌, Bool, false, List, length, get_or, set, replicate}
+use Rattle.std.specs.Prelude.{ℕ, ◌+◌, ◌-◌, ◌*◌, ◌%◌, ◌≤◌, ◌≡◌, Bool, false, List, length, get_or, set}
+use Rattle.std.specs.Prelude.{replicate}
 use Rattle.picture.specs.declared.Depth.TheVariants.{OneBit}
 use Rattle.picture.specs.Frame.{most_pings, row_bytes}
 use Rattle.rows.specs.Steps.Fold.{start_by}

@@ -19,11 +19,11 @@ use Rattle.bitsource.proofs.add_row.Goals.{Else-kind_of-k}
 room : (e : Else-kind_of-k) → let a = e.args in
     e.source_row-y.result * ((a.w + 7) / 8) + (a.w + 7) / 8 ≤ length a.t.now
 room e = omega (
-      arith,
-      row_room ((e.args.w + 7) / 8) {y = e.source_row-y.result} {n = e.args.h}
-          (omega arith),
-      e.requires.t_len.0,
-    )
+  arith,
+  row_room ((e.args.w + 7) / 8) {y = e.source_row-y.result} {n = e.args.h}
+      (omega arith),
+  e.requires.t_len.0,
+)
 
 word_is : (e : Else-kind_of-k) → let a = e.args in
     bit_and (get_or a.words.now a.row.0 0) e.run_word.result
@@ -42,7 +42,8 @@ returns-then-kind_of-k c =
     let a = c.args in
     part_other a.grows _ _ a.w a.h a.o a.words.now a.k a.v.0 a.row.0 _
     (λ z. c.if-kind_of-k.true (kind_is a.o a.words.now a.row.0 _ _ _
-    (word_masked (get_or a.words.now a.row.0 0) a.o.w _ c.run_word.ensures) c.level_of-m.ensures c.kind_of.ensures ∙ z))
+    (word_masked (get_or a.words.now a.row.0 0) a.o.w _ c.run_word.ensures) c.level_of-m.ensures
+    c.kind_of.ensures ∙ z))
     c.requires.part_of
 
 pub overflow_mul-a : goal.overflow_mul-a
@@ -83,7 +84,8 @@ returns c =
     bits_join a.grows a.s.now a.w a.h a.o a.words.now a.k a.v.0 a.row.0
     y.result a.t.now c.requires.t_len.1.0 (omega (arith, c.if-h-y.false)) c.requires.t_len.1.1.0
     c.requires.ready.few_wide c.requires.ready.column c.requires.t_len.0 c.requires.ready.source y.ensures
-    (sym (kind_is a.o a.words.now a.row.0 _ _ _ (word_is (goal.at.returns c).Else-kind_of-k) c.level_of-m.ensures k)
+    (sym (kind_is a.o a.words.now a.row.0 _ _ _ (word_is (goal.at.returns c).Else-kind_of-k)
+    c.level_of-m.ensures k)
     ∙ c.if-kind_of-k.false)
     ((a.w + 650) / 512) p.result _ a.b.now p.new.at j.new.t (omega
     (arith, c.requires.ready.few_pings))

@@ -9,7 +9,8 @@ use Rattle.bitsource.proofs.pass.Given as goal
 
 abbrev pub invariant-loop-v : goal.invariant-loop-v
 invariant-loop-v l =
-    (l.v ≤ l.h) × (length l.t ≡ length l.initial.t) × PartOf OneBit l.grows l.s l.w l.h l.o l.words l.k l.v 0 l.t
+    (l.v ≤ l.h) × (length l.t ≡ length l.initial.t)
+    × PartOf OneBit l.grows l.s l.w l.h l.o l.words l.k l.v 0 l.t
 
 abbrev pub decreases-loop-v : goal.decreases-loop-v
 decreases-loop-v l = l.h - l.v

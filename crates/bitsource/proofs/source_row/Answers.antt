@@ -32,7 +32,8 @@ slice_bounds-fill_rooms-end-2 c = room c.before.before.before.before.before.befo
 pub fill_rooms-requires : goal.fill_rooms-requires
 fill_rooms-requires c =
     let a = c.args in
-    let l = part_length a.s.now (a.v.0 * ((a.w + 7) / 8)) ((a.w + 7) / 8) (room c.before.before.before.before.before.before.before.before) in (
+    let l = part_length a.s.now (a.v.0 * ((a.w + 7) / 8)) ((a.w + 7) / 8)
+    (room c.before.before.before.before.before.before.before.before) in (
       record {
         some_points = c.requires.ready.some_pings;
         few_points = c.requires.ready.few_pings;
@@ -51,8 +52,8 @@ spread-requires c =
       ready = c.requires.ready;
       t_len = (c.requires.t_len.0, (c.requires.t_len.1.0, l));
       bit_rooms = subst (λ n. BitRooms a.grows a.k (take n (drop (a.v.0 * ((a.w + 7) / 8)) a.s.now))
-              a.w
-              ((a.w + 650) / 512) f.new.b) (add-sub_cancel_left (a.v.0 * ((a.w + 7) / 8))
-              ((a.w + 7) / 8)) f.ensures;
+          a.w
+          ((a.w + 650) / 512) f.new.b) (add-sub_cancel_left (a.v.0 * ((a.w + 7) / 8))
+          ((a.w + 7) / 8)) f.ensures;
       part_of = c.requires.part_of;
     }

@@ -11,7 +11,11 @@ pub add_row-requires : goal.add_row-requires
 add_row-requires c =
     let l = c.loop-r in record {
       ready = c.requires.ready;
-      t_len = (l.invariant.1 ∙ c.requires.t_len.0, (c.requires.t_len.1.0, (search rules, c.requires.t_len.1.1)));
+      t_len = (
+        l.invariant.1
+            ∙ c.requires.t_len.0,
+        (c.requires.t_len.1.0, (search rules, c.requires.t_len.1.1)),
+      );
       bit_rooms = c.requires.bit_rooms;
       part_of = l.invariant.2;
     }

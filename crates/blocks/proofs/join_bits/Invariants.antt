@@ -11,7 +11,8 @@ use Rattle.blocks.proofs.join_bits.Given as goal
 abbrev pub invariant-loop-i : goal.invariant-loop-i
 invariant-loop-i l =
     (l.i ≤ 64) × (length l.c ≡ 64) × (length l.initial.c ≡ 64)
-    × (l.c ≡ laid 0 l.i (λ i. join_packed l.grows (get_or l.initial.c i 0) (eight_from l.b (l.at + i) l.d)) l.initial.c)
+    × (l.c ≡ laid 0 l.i (λ i. join_packed l.grows (get_or l.initial.c i 0) (eight_from l.b (l.at + i) l.d))
+    l.initial.c)
 
 abbrev pub decreases-loop-i : goal.decreases-loop-i
 decreases-loop-i l = 64 - l.i

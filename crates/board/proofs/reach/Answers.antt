@@ -1,4 +1,5 @@
-use Prim.Native.Nat.{ℕ, ◌+◌, ◌≤◌, ◌<◌}
+use Prim.Native.Nat.{ℕ, ◌+◌, ◌<◌}
+use mathlib.Core.Path.{◌≡◌}
 use mathlib.Core.List.{List}
 use native.Mathlib.Omega.{arith}
 use lib.ListN.{length, get_or, take}
@@ -6,8 +7,8 @@ use lib.Seq.{length-take-le}
 use Rattle.morphology.specs.Chain.{most_links}
 use Rattle.reach.specs.declared.Link.{Link}
 use Rattle.reach.specs.declared.Bounds.{Bounds}
-use Rattle.reach.specs.Steps.Links.{empty_link}
-use Rattle.reach.specs.Steps.Boards.{Small, Linked}
+use Rattle.reach.specs.Steps.Links.{empty_link, Linked}
+use Rattle.reach.specs.Steps.Boards.{Small}
 use Rattle.reach.proofs.Loops.{Rest, rest_start, rest_more, rest_all, rest_small, narrow_here}
 use Rattle.board.proofs.reach.Goals as goal
 
@@ -24,35 +25,35 @@ loop-i-init c = (omega arith, rest_start _ _ _ c.start-words.ensures)
 pub overflow_cast-column : goal.overflow_cast-column
 overflow_cast-column c =
     let l = c.loop-i in
-    let z = little c.args.links c.args.k c.args.m ? c.requires.linked l.words l.column l.row l.i
+    let z = little c.args.links c.args.k c.args.m (omega arith) c.requires.linked l.words l.column l.row l.i
     c.loop-i-test.true l.invariant.1 in omega arith
 
 pub overflow_add-column : goal.overflow_add-column
 overflow_add-column c =
     let l = c.loop-i in
-    let z = little c.args.links c.args.k c.args.m ? c.requires.linked l.words l.column l.row l.i
+    let z = little c.args.links c.args.k c.args.m (omega arith) c.requires.linked l.words l.column l.row l.i
     c.loop-i-test.true l.invariant.1 in omega arith
 
 pub overflow_cast-row : goal.overflow_cast-row
 overflow_cast-row c =
     let l = c.loop-i in
-    let z = little c.args.links c.args.k c.args.m ? c.requires.linked l.words l.column l.row l.i
+    let z = little c.args.links c.args.k c.args.m (omega arith) c.requires.linked l.words l.column l.row l.i
     c.loop-i-test.true l.invariant.1 in omega arith
 
 pub overflow_add-row : goal.overflow_add-row
 overflow_add-row c =
     let l = c.loop-i in
-    let z = little c.args.links c.args.k c.args.m ? c.requires.linked l.words l.column l.row l.i
+    let z = little c.args.links c.args.k c.args.m (omega arith) c.requires.linked l.words l.column l.row l.i
     c.loop-i-test.true l.invariant.1 in omega arith
 
 pub onward-words-requires : goal.onward-words-requires
 onward-words-requires c =
     let l = c.loop-i in
-    let h = c.well_formed in
-    let z = little c.args.links c.args.k c.args.m ? c.requires.linked l.words l.column l.row l.i
+    let z = little c.args.links c.args.k c.args.m (omega arith) c.requires.linked l.words l.column l.row l.i
     c.loop-i-test.true l.invariant.1 in
     record {
-      w_le_most_cells = narrow_here c.args.links c.args.k l.i ? c.loop-i-test.true c.requires.linked.small;
+      w_le_most_cells =
+          narrow_here c.args.links c.args.k l.i (omega arith) c.loop-i-test.true c.requires.linked.small;
       in_bytes = c.requires.in_bytes;
       small = z;
     }
@@ -61,7 +62,7 @@ pub loop-i-preserved : goal.loop-i-preserved
 loop-i-preserved c =
     let l = c.loop-i in (
       omega arith,
-      rest_more c.args.links c.args.k l.i ? c.loop-i-test.true c.args.m l.words
+      rest_more c.args.links c.args.k l.i (omega arith) c.loop-i-test.true c.args.m l.words
           c.onward-words.result l.column l.row l.invariant.1 c.onward-words.ensures,
     )
 

@@ -29,7 +29,8 @@ ends c = let a = c.args in
 within : (c : After-share_at-base) → let a = c.args in let at = c.share_at-base.result in
     Within numbers a.n (mid_of at (at + share_long - at) a.book.now)
 within c = let a = c.args in
-    got_within a.book.now a.party a.n (done (goal.at.After-share_at-base c).Then-is_done) _ c.share_at-base.ensures.0
+    got_within a.book.now a.party a.n (done (goal.at.After-share_at-base c).Then-is_done) _
+    c.share_at-base.ensures.0
 
 pub slice_bounds-place_of-end : goal.slice_bounds-place_of-end
 slice_bounds-place_of-end c = ends c
@@ -48,7 +49,8 @@ length_at-length-requires c =
 pub returns-then-is_done : goal.returns-then-is_done
 returns-then-is_done c =
     let a = c.args in
-    found_held a.book.now a.party a.n (done (goal.at.returns-then-is_done c).Then-is_done) _ c.share_at-base.ensures.0 _
+    found_held a.book.now a.party a.n (done (goal.at.returns-then-is_done c).Then-is_done) _
+    c.share_at-base.ensures.0 _
     c.get_answer-no.ensures
     (ap (λ i. c.share_at-base.result + i) c.place_of.ensures.0) c.length_at-length.ensures.0
 

@@ -22,5 +22,5 @@ pub returns : goal.returns
 returns c =
     let s = c.args.book in record {
       bytes = (found_part _ _ _ _ c.find-at.ensures).1;
-      place = ap (λ (n : ℕ). (s.ptr.0, n + s.ptr.1)) c.find-at.ensures.place;
+      place = ap (λ (n : ℕ). (s.ref_ptr.0, n + s.ref_ptr.1)) c.find-at.ensures.place;
     }

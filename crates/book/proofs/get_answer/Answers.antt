@@ -14,17 +14,20 @@ kept c = sym c.book_made.ensures ∙ c.if-book_made.true
 pub slice_bounds-absent_refusal-end : goal.slice_bounds-absent_refusal-end
 slice_bounds-absent_refusal-end c =
     let a = c.args in
-    part_end a.book.now a.party _ c.share_at-at.ensures.0 (kept (goal.at.slice_bounds-absent_refusal-end c).Then-book_made)
+    part_end a.book.now a.party _ c.share_at-at.ensures.0
+    (kept (goal.at.slice_bounds-absent_refusal-end c).Then-book_made)
 
 pub absent_refusal-requires : goal.absent_refusal-requires
 absent_refusal-requires c =
     let a = c.args in
-    part_whole a.book.now a.party _ c.share_at-at.ensures.0 (kept (goal.at.absent_refusal-requires c).Then-book_made)
+    part_whole a.book.now a.party _ c.share_at-at.ensures.0
+    (kept (goal.at.absent_refusal-requires c).Then-book_made)
 
 pub returns-then-book_made : goal.returns-then-book_made
 returns-then-book_made c =
     let a = c.args in
-    call_answer a.book.now a.party _ c.share_at-at.ensures.0 (kept (goal.at.returns-then-book_made c).Then-book_made) (Get a.n) _
+    call_answer a.book.now a.party _ c.share_at-at.ensures.0
+    (kept (goal.at.returns-then-book_made c).Then-book_made) (Get a.n) _
     c.absent_refusal.ensures
 
 pub returns : goal.returns

@@ -18,7 +18,8 @@ broken c = sym c.book_made.ensures ∙ c.if-book_made.false
 pub slice_bounds-put-end : goal.slice_bounds-put-end
 slice_bounds-put-end c =
     let a = c.args in
-    part_end a.book.now a.party _ c.share_at-at.ensures.0 (kept (goal.at.slice_bounds-put-end c).Then-book_made)
+    part_end a.book.now a.party _ c.share_at-at.ensures.0
+    (kept (goal.at.slice_bounds-put-end c).Then-book_made)
 
 pub put-requires : goal.put-requires
 put-requires c =
@@ -27,13 +28,14 @@ put-requires c =
 
 pub returns-then-book_made : goal.returns-then-book_made
 returns-then-book_made c =
-    let a = c.args in
-    (
-      call_answer a.book.now a.party _ c.share_at-at.ensures.0 (kept (goal.at.returns-then-book_made c).Then-book_made) (Put a.n a.d.now)
-          _ c.put.ensures.answer,
-      call_after a.book.now a.party _ c.share_at-at.ensures.0 (kept (goal.at.returns-then-book_made c).Then-book_made) (Put a.n a.d.now)
-          _ c.put.ensures.bytes,
-    )
+    let a = c.args in record {
+      answer = call_answer a.book.now a.party _ c.share_at-at.ensures.0
+          (kept (goal.at.returns-then-book_made c).Then-book_made) (Put a.n a.d.now)
+          _ c.put.ensures.answer;
+      bytes = call_after a.book.now a.party _ c.share_at-at.ensures.0
+          (kept (goal.at.returns-then-book_made c).Then-book_made) (Put a.n a.d.now)
+          _ c.put.ensures.bytes;
+    }
 
 pub returns : goal.returns
 returns c =

@@ -18,7 +18,8 @@ broken c = sym c.book_made.ensures ∙ c.if-book_made.false
 pub slice_bounds-remove-end : goal.slice_bounds-remove-end
 slice_bounds-remove-end c =
     let a = c.args in
-    part_end a.book.now a.party _ c.share_at-at.ensures.0 (kept (goal.at.slice_bounds-remove-end c).Then-book_made)
+    part_end a.book.now a.party _ c.share_at-at.ensures.0
+    (kept (goal.at.slice_bounds-remove-end c).Then-book_made)
 
 pub remove-requires : goal.remove-requires
 remove-requires c =
@@ -27,11 +28,12 @@ remove-requires c =
 
 pub returns-then-book_made : goal.returns-then-book_made
 returns-then-book_made c =
-    let a = c.args in
-    (
-      call_answer a.book.now a.party _ c.share_at-at.ensures.0 (kept (goal.at.returns-then-book_made c).Then-book_made) (Remove a.n) _ c.remove.ensures.answer,
-      call_after a.book.now a.party _ c.share_at-at.ensures.0 (kept (goal.at.returns-then-book_made c).Then-book_made) (Remove a.n) _ c.remove.ensures.bytes,
-    )
+    let a = c.args in record {
+      answer = call_answer a.book.now a.party _ c.share_at-at.ensures.0
+          (kept (goal.at.returns-then-book_made c).Then-book_made) (Remove a.n) _ c.remove.ensures.answer;
+      bytes = call_after a.book.now a.party _ c.share_at-at.ensures.0
+          (kept (goal.at.returns-then-book_made c).Then-book_made) (Remove a.n) _ c.remove.ensures.bytes;
+    }
 
 pub returns : goal.returns
 returns c =

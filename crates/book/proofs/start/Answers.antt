@@ -6,8 +6,10 @@ use Rattle.book.proofs.start.Goals as goal
 
 pub returns-then-book-lt-BOOK : goal.returns-then-book-lt-BOOK
 returns-then-book-lt-BOOK c =
-    let b = c.args.book.now in
-    (start_answer_short b c.if-book-lt-BOOK.true, start_short b c.if-book-lt-BOOK.true)
+    let b = c.args.book.now in record {
+      answer = start_answer_short b c.if-book-lt-BOOK.true;
+      bytes = start_short b c.if-book-lt-BOOK.true;
+    }
 
 pub returns : goal.returns
 returns c =

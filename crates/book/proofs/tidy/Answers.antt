@@ -19,7 +19,8 @@ broken c = sym c.book_made.ensures ∙ c.if-book_made.false
 pub slice_bounds-tidy-end : goal.slice_bounds-tidy-end
 slice_bounds-tidy-end c =
     let a = c.args in
-    part_end a.book.now a.party _ c.share_at-at.ensures.0 (kept (goal.at.slice_bounds-tidy-end c).Then-book_made)
+    part_end a.book.now a.party _ c.share_at-at.ensures.0
+    (kept (goal.at.slice_bounds-tidy-end c).Then-book_made)
 
 pub tidy-requires : goal.tidy-requires
 tidy-requires c =
@@ -29,11 +30,13 @@ tidy-requires c =
 pub returns-then-book_made : goal.returns-then-book_made
 unfolding told
 returns-then-book_made c =
-    let a = c.args in (
-      call_answer a.book.now a.party _ c.share_at-at.ensures.0 (kept (goal.at.returns-then-book_made c).Then-book_made) Tidy _ refl,
-      call_after a.book.now a.party _ c.share_at-at.ensures.0 (kept (goal.at.returns-then-book_made c).Then-book_made) Tidy _
-          c.tidy.ensures,
-    )
+    let a = c.args in record {
+      answer = call_answer a.book.now a.party _ c.share_at-at.ensures.0
+          (kept (goal.at.returns-then-book_made c).Then-book_made) Tidy _ refl;
+      bytes = call_after a.book.now a.party _ c.share_at-at.ensures.0
+          (kept (goal.at.returns-then-book_made c).Then-book_made) Tidy _
+          c.tidy.ensures;
+    }
 
 pub returns : goal.returns
 returns c =

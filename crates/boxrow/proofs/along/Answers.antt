@@ -36,14 +36,13 @@ returns-then-packed c =
     let n = c.lesser.ensures in
     let l = c.lesser-2.ensures in
     let q = c.if-packed.true in
-    (
-      along_as a.packed a.grows a.w a.o a.wide _ _ _ _ m f n l true q a.b.now _ c.along_bits.ensures.row,
-      (
-        c.along_bits.ensures.known,
-        left_as a.packed a.grows a.w a.o a.wide _ _ _ _ m f n l true q a.b.now _
-            c.along_bits.ensures.left,
-      ),
-    )
+    record {
+      row = along_as a.packed a.grows a.w a.o a.wide _ _ _ _ m f n l true q a.b.now _
+          c.along_bits.ensures.row;
+      known = c.along_bits.ensures.known;
+      left = left_as a.packed a.grows a.w a.o a.wide _ _ _ _ m f n l true q a.b.now _
+          c.along_bits.ensures.left;
+    }
 
 pub along_bytes-requires : goal.along_bytes-requires
 along_bytes-requires c =
@@ -61,8 +60,9 @@ returns c =
     let l = c.lesser-2.ensures in
     let q = c.if-packed.false in
     record {
-      row = along_as a.packed a.grows a.w a.o a.wide _ _ _ _ m f n l false q a.b.now _ c.along_bytes.ensures.row;
+      row = along_as a.packed a.grows a.w a.o a.wide _ _ _ _ m f n l false q a.b.now _
+          c.along_bytes.ensures.row;
       known = c.along_bytes.ensures.known;
       left = left_as a.packed a.grows a.w a.o a.wide _ _ _ _ m f n l false q a.b.now _
-            c.along_bytes.ensures.left;
+          c.along_bytes.ensures.left;
     }

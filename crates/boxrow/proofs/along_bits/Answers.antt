@@ -23,6 +23,6 @@ returns c =
           (λ i. let f = c.type_inv.t i in omega arith);
       known = known;
       left = bits_left_lem a.grows a.w a.m a.p a.q a.r a.s _ c.requires.some_points a.b.now _ _
-            _ _ _ known c.requires.target c.blot.ensures c.windows.ensures
-            fits c.gather.ensures copied cleared;
+          _ _ _ known c.requires.target c.blot.ensures c.windows.ensures
+          fits c.gather.ensures copied cleared;
     }

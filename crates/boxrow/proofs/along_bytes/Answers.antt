@@ -12,5 +12,5 @@ returns c =
           c.lay.ensures;
       known = λ i. let f = c.slice_known-1.given i in omega arith;
       left = bytes_left_lem a.grows a.w a.m a.p a.q a.r a.s a.b.now _
-            c.windows.ensures;
+          c.windows.ensures;
     }

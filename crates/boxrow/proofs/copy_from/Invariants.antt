@@ -8,7 +8,8 @@ use Rattle.boxrow.proofs.copy_from.Given as goal
 
 abbrev pub invariant-loop-i : goal.invariant-loop-i
 invariant-loop-i l =
-    (l.i ≤ length l.initial.row) × (length l.row ≡ length l.initial.row) × (l.row ≡ laid 0 l.i (λ i. get_or l.t
+    (l.i ≤ length l.initial.row) × (length l.row ≡ length l.initial.row)
+    × (l.row ≡ laid 0 l.i (λ i. get_or l.t
     (l.at + i) 0) l.initial.row)
 
 abbrev pub decreases-loop-i : goal.decreases-loop-i

@@ -1,5 +1,6 @@
 -- A row from windows at four places of a padded row, in points.
-use Rattle.std.specs.Prelude.{ℕ, ◌+◌, ◌-◌, ◌/◌, ◌%◌, ◌≤◌, ◌<◌, min, ◌≡◌, Bool, true, false, cond, List, [], ◌∷◌, get_or, set}
+use Rattle.std.specs.Prelude.{ℕ, ◌+◌, ◌-◌, ◌/◌, ◌%◌, ◌≤◌, ◌<◌, min, ◌≡◌, Bool, true, false, cond, List}
+use Rattle.std.specs.Prelude.{[], ◌∷◌, get_or, set}
 use Rattle.picture.specs.Frame.{most_pings, row_bytes}
 use Rattle.element.specs.Descriptor.{most_cells}
 use Rattle.rows.specs.Steps.Fold.{join_by}

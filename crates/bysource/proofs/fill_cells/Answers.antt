@@ -28,5 +28,6 @@ returns c =
     let p = c.copy_over in
     let l : length p.new.b ≡ 2464 = search rules in
     cells_filled a.grows a.s.now a.n c.requires.s_len_bound.0 c.requires.s_len_bound.1.0 p.new.b _ l
-    (p.ensures ∙ ap (laid 64 (length a.s.now) (λ i. faced_byte false (get_or a.s.now i 0))) c.requires.b_value)
+    (p.ensures ∙ ap (laid 64 (length a.s.now) (λ i. faced_byte false (get_or a.s.now i 0)))
+    c.requires.b_value)
     c.widen.ensures

@@ -31,8 +31,12 @@ slice_bounds-fill_rooms-end-2 c = room c.before.before.before.before.before.befo
 pub fill_rooms-requires : goal.fill_rooms-requires
 fill_rooms-requires c =
     let a = c.args in
-    let l = part_length a.s.now (a.v.0 * a.w) a.w (room c.before.before.before.before.before.before.before.before) in record {
-      s_len_bound = (omega (arith, l, c.requires.ready.few_pings), (omega (arith, c.requires.ready.few_pings), refl));
+    let l = part_length a.s.now (a.v.0 * a.w) a.w
+    (room c.before.before.before.before.before.before.before.before) in record {
+      s_len_bound = (
+        omega (arith, l, c.requires.ready.few_pings),
+        (omega (arith, c.requires.ready.few_pings), refl),
+      );
       k_bound = (c.requires.t_len.1.1, ap (λ v. replicate 2464 v) c.beyond-b.ensures);
     }
 
@@ -44,7 +48,7 @@ spread-requires c =
       ready = c.requires.ready;
       t_len = (c.requires.t_len.0, (c.requires.t_len.1.0, l));
       byte_rooms = subst (λ n. ByteRooms a.grows a.k (take n (drop (a.v.0 * a.w) a.s.now))
-              ((a.w + 202) / 64)
-              f.new.b) (add-sub_cancel_left (a.v.0 * a.w) a.w) f.ensures;
+          ((a.w + 202) / 64)
+          f.new.b) (add-sub_cancel_left (a.v.0 * a.w) a.w) f.ensures;
       part_of = c.requires.part_of;
     }

@@ -8,7 +8,8 @@ use Rattle.byterow.proofs.make_row.Given as goal
 
 abbrev pub invariant-loop-r : goal.invariant-loop-r
 invariant-loop-r l =
-    (l.r ≤ l.o.h) × (length l.t ≡ length l.initial.t) × (l.t ≡ bytes_after l.grows l.s l.w l.h l.o l.words l.heights l.y.0 l.r)
+    (l.r ≤ l.o.h) × (length l.t ≡ length l.initial.t)
+    × (l.t ≡ bytes_after l.grows l.s l.w l.h l.o l.words l.heights l.y.0 l.r)
 
 abbrev pub decreases-loop-r : goal.decreases-loop-r
 decreases-loop-r l = l.o.h - l.r

@@ -10,7 +10,8 @@ use Rattle.bytewindows.proofs.lay_blocks.Given as goal
 abbrev pub invariant-loop-j : goal.invariant-loop-j
 invariant-loop-j l =
     (l.j ≤ l.k) × (length l.t ≡ length l.initial.t)
-    × (l.t ≡ laid 0 (64 * l.j) (λ i. joined_four l.grows l.b (l.p + i) (l.q + i) (l.r + i) (l.s + i)) l.initial.t)
+    × (l.t ≡ laid 0 (64 * l.j) (λ i. joined_four l.grows l.b (l.p + i) (l.q + i) (l.r + i) (l.s + i))
+    l.initial.t)
 
 abbrev pub decreases-loop-j : goal.decreases-loop-j
 decreases-loop-j l = l.k - l.j

@@ -16,7 +16,7 @@ loop-i-preserved c =
     let a = c.args in (
       search rules,
       simp length-set l.invariant.1,
-      laid_more a.at l.i (λ i. get_or a.t3 i 0) a.t.now l.t _ (omega arith) l.invariant.2 refl,
+      laid_more a.at l.i (λ i. get_or a.c i 0) a.t.now l.t _ (omega arith) l.invariant.2 refl,
     )
 
 pub shape_of-t : goal.shape_of-t
@@ -26,4 +26,4 @@ pub returns : goal.returns
 returns c =
     let a = c.args in
     let e : c.loop-i.i ≡ length a.t.now - a.at = omega arith in
-    c.loop-i.invariant.2 ∙ ap (λ i. laid a.at i (λ i. get_or a.t3 i 0) a.t.now) e
+    c.loop-i.invariant.2 ∙ ap (λ i. laid a.at i (λ i. get_or a.c i 0) a.t.now) e

@@ -9,7 +9,8 @@ use Rattle.bytewindows.proofs.widen.Given as goal
 
 abbrev pub invariant-loop-j : goal.invariant-loop-j
 invariant-loop-j l =
-    (l.j ≤ l.k) × (length l.b ≡ length l.initial.b) × (l.b ≡ widened_by (widen_at l.grows l.n) l.j l.initial.b)
+    (l.j ≤ l.k) × (length l.b ≡ length l.initial.b)
+    × (l.b ≡ widened_by (widen_at l.grows l.n) l.j l.initial.b)
 
 abbrev pub decreases-loop-j : goal.decreases-loop-j
 decreases-loop-j l = l.k - l.j

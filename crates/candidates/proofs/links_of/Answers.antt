@@ -9,8 +9,7 @@ pub returns-then-c : goal.returns-then-c
 returns-then-c c = (sym (links_own _ _ c.if-c.true), omega arith)
 
 pub returns : goal.returns
-returns c =
-    (
+returns c = (
   c.needed.ensures.0
       ∙ sym (links_more _ _ _ c.if-c.false
       c.greater.ensures),

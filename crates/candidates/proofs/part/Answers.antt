@@ -8,10 +8,10 @@ use Rattle.candidates.proofs.part.Goals as goal
 pub overflow_mul-most : goal.overflow_mul-most
 overflow_mul-most c =
     omega (
-  arith,
-  mul-le-mul {n₁ = c.args.most} {m₁ = c.args.i} {n₂ = 7} {m₂ =
-      5} (omega arith) (omega arith),
-)
+      arith,
+      mul-le-mul {n₁ = c.args.most} {m₁ = c.args.i} {n₂ = 7} {m₂ =
+          5} (omega arith) (omega arith),
+    )
 
 pub returns : goal.returns
 unfolding spec.part

@@ -10,7 +10,8 @@ use Rattle.candidates.proofs.put_link.Given as goal
 
 abbrev pub invariant-loop-j : goal.invariant-loop-j
 invariant-loop-j l =
-    (l.j ≤ length l.initial.t) × (length l.t ≡ length l.initial.t) × (l.t ≡ firsts (link_byte l.hull l.c l.i) l.j ++ drop l.j l.initial.t)
+    (l.j ≤ length l.initial.t) × (length l.t ≡ length l.initial.t)
+    × (l.t ≡ firsts (link_byte l.hull l.c l.i) l.j ++ drop l.j l.initial.t)
 
 abbrev pub decreases-loop-j : goal.decreases-loop-j
 decreases-loop-j l = length l.initial.t - l.j

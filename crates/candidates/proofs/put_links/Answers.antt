@@ -13,11 +13,11 @@ use Rattle.candidates.proofs.put_links.Goals as goal
 pub loop-i-init : goal.loop-i-init
 loop-i-init c =
     let a = c.args in (
-  search rules,
-  search rules,
-  rows_none (λ n. firsts (link_byte a.hull a.c n) a.m) a.m
-      (λ n. length_firsts (link_byte a.hull a.c n) a.m) _,
-)
+      search rules,
+      search rules,
+      rows_none (λ n. firsts (link_byte a.hull a.c n) a.m) a.m
+          (λ n. length_firsts (link_byte a.hull a.c n) a.m) _,
+    )
 
 pub overflow_mul-at : goal.overflow_mul-at
 overflow_mul-at c = omega (arith, row_room c.args.m c.loop-i-test.true)

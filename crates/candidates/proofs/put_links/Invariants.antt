@@ -10,7 +10,8 @@ use Rattle.candidates.proofs.put_links.Given as goal
 
 abbrev pub invariant-loop-i : goal.invariant-loop-i
 invariant-loop-i l =
-    (l.i ≤ l.k) × (length l.t ≡ length l.initial.t) × (l.t ≡ joined (λ n. firsts (link_byte l.hull l.c n) l.m) l.i ++ drop (l.i * l.m) l.initial.t)
+    (l.i ≤ l.k) × (length l.t ≡ length l.initial.t)
+    × (l.t ≡ joined (λ n. firsts (link_byte l.hull l.c n) l.m) l.i ++ drop (l.i * l.m) l.initial.t)
 
 abbrev pub decreases-loop-i : goal.decreases-loop-i
 decreases-loop-i l = l.k - l.i

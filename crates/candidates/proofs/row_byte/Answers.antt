@@ -18,12 +18,12 @@ returns-then-lower-r c = sym (row_below _ _ _ _ _ _ _ _ _ (omega arith) (omega a
 pub overflow_add-from : goal.overflow_add-from
 overflow_add-from c =
     record {
-  fits =
-      few_sum _ _ _ _ _ _ _ _ c.part-from.ensures.1 c.greater.ensures
-      c.less-ul.ensures
-      c.less-ll.ensures
-      c.part.ensures.1 c.part-2.ensures.1;
-}
+      fits =
+          few_sum _ _ _ _ _ _ _ _ c.part-from.ensures.1 c.greater.ensures
+          c.less-ul.ensures
+          c.less-ll.ensures
+          c.part.ensures.1 c.part-2.ensures.1;
+    }
 
 pub returns : goal.returns
 returns c =

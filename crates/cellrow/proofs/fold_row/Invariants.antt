@@ -12,7 +12,8 @@ use Rattle.cellrow.proofs.fold_row.Given as goal
 abbrev pub invariant-loop-c : goal.invariant-loop-c
 invariant-loop-c l =
     (l.c ≤ l.wide) × (length l.t ≡ length l.initial.t)
-    × (l.t ≡ so_far l.grows (weigh_by l.grows) (λ c. columns_of l.heights (l.at + c)) l.initial.t l.s l.w (cell_on l.word) l.origin.0 l.c)
+    × (l.t ≡ so_far l.grows (weigh_by l.grows) (λ c. columns_of l.heights (l.at + c)) l.initial.t l.s l.w
+    (cell_on l.word) l.origin.0 l.c)
 
 abbrev pub decreases-loop-c : goal.decreases-loop-c
 decreases-loop-c l = l.wide - l.c

@@ -11,17 +11,15 @@ use Rattle.cellwise.proofs.column.Goals as goal
 pub pick-k-requires : goal.pick-k-requires
 pick-k-requires c =
     let a = c.args in
-    let p = c.requires.x_lt_w in (
-      (refl, p.1.few),
-      (
-        (c.requires.ready.some_pings, p.0),
-        place_few a.grows a.s.now a.w a.h a.o a.words.now
+    let p = c.requires.x_lt_w in record {
+      into_len = (refl, p.1.few);
+      le_w = (c.requires.ready.some_pings, p.0);
+      by_index = place_few a.grows a.s.now a.w a.h a.o a.words.now
             (λ i. let f = c.type_inv.s i in omega
             arith) c.requires.middle
             c.requires.ready.column c.requires.ready.row a.at.now p.1 c.requires.ready.few_pings
-            c.requires.ready.few_high c.requires.ready.few_wide,
-      ),
-    )
+            c.requires.ready.few_high c.requires.ready.few_wide;
+    }
 
 pub overflow_mul-up : goal.overflow_mul-up
 overflow_mul-up c =

@@ -26,7 +26,7 @@ pub overflow_add-z : goal.overflow_add-z
 overflow_add-z c = omega (arith, room c)
 
 pub slice_bounds-make_row-end : goal.slice_bounds-make_row-end
-slice_bounds-make_row-end c = room (goal.at.slice_bounds-make_row-end c).At-loop-y
+slice_bounds-make_row-end c = room (goal.at.slice_bounds-make_row-end c).In-loop-y
 
 pub make_row-requires : goal.make_row-requires
 make_row-requires c =
@@ -34,7 +34,7 @@ make_row-requires c =
       ready = c.requires.ready;
       t_len = (
     part_length c.loop-y.t
-        _ _ (room (goal.at.make_row-requires c).At-loop-y),
+        _ _ (room (goal.at.make_row-requires c).In-loop-y),
     omega (arith, c.requires.from_le_to.1),
   );
     }

@@ -33,6 +33,9 @@ read_links-requires c = few_links _ (right c)
 pub judged-requires : goal.judged-requires
 judged-requires c =
     record {
-      element_value = (made (goal.at.judged-requires c).Else-not-made, right (goal.at.judged-requires c).Else-not-is_counted);
+      element_value = (
+        made (goal.at.judged-requires c).Else-not-made,
+        right (goal.at.judged-requires c).Else-not-is_counted,
+      );
       read_as = c.read_links.ensures;
     }

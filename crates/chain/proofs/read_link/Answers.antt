@@ -27,7 +27,7 @@ returns-then-not-is_small c =
 
 pub returns : goal.returns
 returns c =
-    one_held _ (made (goal.at.returns c).After-well_made-made)
+    one_held _ (sym c.well_made-made.ensures ∙ c.if-not-made.false)
     (size_of _ _ c.element_at-e.ensures true
     (sym c.is_small.ensures ∙ c.if-not-is_small.false)) _
     (c.link_of-held.ensures ∙ ap (λ (e : Element). link_of e) c.element_at-e.ensures)

@@ -1,24 +1,14 @@
-use Prim.Native.Nat.{◌+◌, ◌≤◌}
 use mathlib.Core.Path.{refl, sym, ◌∙◌}
-use mathlib.Core.Bool.{true}
 use native.Mathlib.Omega.{arith}
-use lib.ListN.{length, length-replicate}
-use borrow.Author.Rules.{rules}
-use Rattle.answer.specs.Answer.{is_done}
+use lib.ListN.{length-replicate}
 use Rattle.morphology.specs.Chain.{most_links}
 use Rattle.chain.proofs.Reading.{onward_start, end_in_lem}
 use Rattle.chain.proofs.Reading.{link_refused, link_taken, bytes_follow, links_read}
 use Rattle.chain.proofs.read_links.Goals as goal
-use Rattle.chain.proofs.read_links.Goals.{After-descriptor_len}
-
-ends : (c : After-descriptor_len) →
-    c.loop-i.at + c.descriptor_len.result
-    ≤ length c.args.d.now
-ends c = end_in_lem _ _ _ _ _ c.loop-i.invariant.1 c.loop-i-test.true _ c.descriptor_len.ensures
 
 pub loop-i-init : goal.loop-i-init
 loop-i-init c =
-    (search rules, onward_start _ _ _ (length-replicate most_links c.no_link-none.result))
+    (omega arith, onward_start _ _ _ (length-replicate most_links c.no_link-none.result))
 
 pub slice_bounds-descriptor_len-count : goal.slice_bounds-descriptor_len-count
 slice_bounds-descriptor_len-count c = c.loop-i.invariant.1.inside
@@ -26,8 +16,14 @@ slice_bounds-descriptor_len-count c = c.loop-i.invariant.1.inside
 pub slice_bounds-descriptor_len-start : goal.slice_bounds-descriptor_len-start
 slice_bounds-descriptor_len-start c = c.loop-i.invariant.1.inside
 
+pub slice_bounds-read_link-end : goal.slice_bounds-read_link-end
+slice_bounds-read_link-end c =
+    end_in_lem _ _ _ _ _ c.loop-i.invariant.1 c.loop-i-test.true _ c.descriptor_len.ensures
+
 pub overflow_add-end : goal.overflow_add-end
-overflow_add-end c = let z = ends c in omega arith
+overflow_add-end c =
+    let z = end_in_lem _ _ _ _ _ c.loop-i.invariant.1 c.loop-i-test.true _ c.descriptor_len.ensures in
+    omega arith
 
 pub returns-then-not-is_done : goal.returns-then-not-is_done
 returns-then-not-is_done c =
@@ -36,14 +32,13 @@ returns-then-not-is_done c =
     (sym c.is_done.ensures ∙ c.if-not-is_done.true) _ refl
 
 pub loop-i-preserved : goal.loop-i-preserved
-loop-i-preserved c =
-    (
-      search rules,
-      link_taken _ _ _ _ _ c.loop-i.invariant.1 c.loop-i-test.true _ c.descriptor_len.ensures
-          _ _ c.read_link-read.ensures
-          (sym c.is_done.ensures ∙ c.if-not-is_done.false)
-          c.requires,
-    )
+loop-i-preserved c = (
+  omega arith,
+  link_taken _ _ _ _ _ c.loop-i.invariant.1 c.loop-i-test.true _ c.descriptor_len.ensures
+      _ _ c.read_link-read.ensures
+      (sym c.is_done.ensures ∙ c.if-not-is_done.false)
+      c.requires,
+)
 
 pub returns-then-at-d : goal.returns-then-at-d
 returns-then-at-d c = bytes_follow _ _ _ _ _ c.loop-i.invariant.1 (omega arith) c.if-at-d.true

@@ -12,15 +12,25 @@ flat-requires c =
     }
 
 pub returns-then-i-eq0 : goal.returns-then-i-eq0
-returns-then-i-eq0 c = from_source _ _ _ _ _ _ _ _ _ _ c.if-i-eq0.true c.flat.ensures
+returns-then-i-eq0 c =
+    let a = c.args in
+    let p = from_source a.grows a.depth a.w a.h a.i a.e a.source.now a.first.now a.second.now _
+    c.if-i-eq0.true c.flat.ensures in
+    record { first = p.0; second = p.1 }
 
 pub flat-requires-then-i-eq1 : goal.flat-requires-then-i-eq1
 flat-requires-then-i-eq1 c =
-    (ready _ _ _ _ _ _ c.requires.holds_2 c.requires.fit, c.requires.holds_3)
+    record {
+      ready = ready _ _ _ _ _ _ c.requires.holds_2 c.requires.fit;
+      holds = c.requires.holds_3;
+    }
 
 pub returns-then-i-eq1 : goal.returns-then-i-eq1
 returns-then-i-eq1 c =
-    from_first _ _ _ _ _ _ _ _ _ _ c.if-i-eq0.false c.if-i-eq1.true c.flat-then-i-eq1.ensures
+    let a = c.args in
+    let p = from_first a.grows a.depth a.w a.h a.i a.e a.source.now a.first.now a.second.now _
+    c.if-i-eq0.false c.if-i-eq1.true c.flat-then-i-eq1.ensures in
+    record { first = p.0; second = p.1 }
 
 pub flat-requires-2 : goal.flat-requires-2
 flat-requires-2 c =
@@ -30,4 +40,8 @@ flat-requires-2 c =
     }
 
 pub returns : goal.returns
-returns c = from_second _ _ _ _ _ _ _ _ _ _ c.if-i-eq0.false c.if-i-eq1.false c.flat-2.ensures
+returns c =
+    let a = c.args in
+    let p = from_second a.grows a.depth a.w a.h a.i a.e a.source.now a.first.now a.second.now _
+    c.if-i-eq0.false c.if-i-eq1.false c.flat-2.ensures in
+    record { first = p.0; second = p.1 }

@@ -7,8 +7,7 @@ use Rattle.chainfor.proofs.Search.{sixty, accepted_is}
 use Rattle.chainfor.proofs.accepted.Goals as goal
 
 pub put_links-requires : goal.put_links-requires
-put_links-requires c =
-    (
+put_links-requires c = (
   c.try_no-c.ensures.1,
   (
     c.links_of-k.ensures.1,
@@ -22,31 +21,31 @@ put_links-requires c =
 pub overflow_mul-n : goal.overflow_mul-n
 overflow_mul-n c =
     omega (
-  arith,
-  sixty c.links_of-k.result
-      c.length_of-m.result (omega arith) (omega arith),
-)
+      arith,
+      sixty c.links_of-k.result
+          c.length_of-m.result (omega arith) (omega arith),
+    )
 
 pub slice_bounds-work-end : goal.slice_bounds-work-end
 slice_bounds-work-end c =
     omega (
-  arith,
-  sixty c.links_of-k.result
-      c.length_of-m.result (omega arith)
-      (omega arith),
-  c.put_links.auto.t,
-)
+      arith,
+      sixty c.links_of-k.result
+          c.length_of-m.result (omega arith)
+          (omega arith),
+      c.put_links.auto.t,
+    )
 
 pub slice_bounds-check_chain-end : goal.slice_bounds-check_chain-end
 slice_bounds-check_chain-end c =
     sym (length-take-le _ _ (omega (
-  arith,
-  sixty
-      c.links_of-k.result
-      c.length_of-m.result (omega arith)
-      (omega arith),
-  c.put_links.auto.t,
-)))
+      arith,
+      sixty
+          c.links_of-k.result
+          c.length_of-m.result (omega arith)
+          (omega arith),
+      c.put_links.auto.t,
+    )))
 
 pub returns : goal.returns
 returns c =

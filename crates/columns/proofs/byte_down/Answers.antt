@@ -18,9 +18,9 @@ room c = let a = c.args in
 pub loop-v-init : goal.loop-v-init
 loop-v-init c =
     let a = c.args in (
-  search rules,
-  c.beyond-c.ensures ∙ down_none a.packed a.grows a.s.now a.n a.lo a.i,
-)
+      search rules,
+      c.beyond-c.ensures ∙ down_none a.packed a.grows a.s.now a.n a.lo a.i,
+    )
 
 pub overflow_add-lo : goal.overflow_add-lo
 overflow_add-lo c = omega (arith, room c)

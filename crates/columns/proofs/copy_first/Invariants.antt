@@ -8,7 +8,8 @@ use Rattle.columns.proofs.copy_first.Given as goal
 
 abbrev pub invariant-loop-i : goal.invariant-loop-i
 invariant-loop-i l =
-    (l.i ≤ length l.initial.t) × (length l.t ≡ length l.initial.t) × (l.t ≡ laid 0 l.i (λ i. get_or l.a i 0) l.initial.t)
+    (l.i ≤ length l.initial.t) × (length l.t ≡ length l.initial.t)
+    × (l.t ≡ laid 0 l.i (λ i. get_or l.a i 0) l.initial.t)
 
 abbrev pub decreases-loop-i : goal.decreases-loop-i
 decreases-loop-i l = length l.initial.t - l.i

@@ -20,10 +20,10 @@ room c = let a = c.args in
 pub loop-v-init : goal.loop-v-init
 loop-v-init c =
     let a = c.args in (
-  search rules,
-  search rules,
-  block_none a.packed a.grows a.s.now a.n a.lo a.i _ _ c.beyond-c.ensures refl,
-)
+      search rules,
+      search rules,
+      block_none a.packed a.grows a.s.now a.n a.lo a.i _ _ c.beyond-c.ensures refl,
+    )
 
 pub overflow_add-lo : goal.overflow_add-lo
 overflow_add-lo c = omega (arith, room c)

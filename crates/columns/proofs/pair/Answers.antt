@@ -6,12 +6,12 @@ use Rattle.columns.proofs.pair.Goals as goal
 
 pub returns-then-grows : goal.returns-then-grows
 returns-then-grows c =
-    let a = c.args in (
-      as_asked a.packed a.grows true a.s.now _ _ a.lo a.count a.first c.if-grows.true
-          c.pair_any_short.ensures.one,
-      as_asked a.packed a.grows true a.s.now _ _ a.lo a.count a.last c.if-grows.true
-          c.pair_any_short.ensures.other,
-    )
+    let a = c.args in record {
+      one = as_asked a.packed a.grows true a.s.now _ _ a.lo a.count a.first c.if-grows.true
+          c.pair_any_short.ensures.one;
+      other = as_asked a.packed a.grows true a.s.now _ _ a.lo a.count a.last c.if-grows.true
+          c.pair_any_short.ensures.other;
+    }
 
 pub returns : goal.returns
 returns c =

@@ -15,7 +15,10 @@ below c = rows_end_in _ _ _ c.args.first c.args.lo c.args.count c.args.last _ c.
 
 pub returns-then-n-eq0 : goal.returns-then-n-eq0
 returns-then-n-eq0 c =
-    (no_row _ _ _ refl c.if-n-eq0.true, no_row _ _ _ c.requires.pair.same c.if-n-eq0.true)
+    record {
+      one = no_row _ _ _ refl c.if-n-eq0.true;
+      other = no_row _ _ _ c.requires.pair.same c.if-n-eq0.true;
+    }
 
 pub rows_end-requires : goal.rows_end-requires
 rows_end-requires c =

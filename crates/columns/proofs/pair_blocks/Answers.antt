@@ -26,14 +26,16 @@ loop-done-preserved c =
       other.auto.t ∙ l.invariant.2,
       laid_over (also_at a.packed a.grows a.s.now m a.lo a.count a.first) l.done _ 64
           a.y.now l.y one.new.t _ (omega (arith, least))
-          (omega (arith, least, l.invariant.0, c.requires.in_bounds)) (omega (arith, least, c.requires.in_bounds)) l.invariant.3
+          (omega (arith, least, l.invariant.0, c.requires.in_bounds))
+          (omega (arith, least, c.requires.in_bounds)) l.invariant.3
           (also_block a.packed a.grows a.s.now m a.lo a.count a.first
           _ d.result _ d.ensures
           c.join_block.ensures)
           one.ensures,
       laid_over (also_at a.packed a.grows a.s.now m a.lo a.count a.last) l.done _ 64
           a.z.now l.z other.new.t _ (omega (arith, least))
-          (omega (arith, least, l.invariant.0, c.requires.in_bounds)) (omega (arith, least, c.requires.in_bounds, c.requires.pair.same))
+          (omega (arith, least, l.invariant.0, c.requires.in_bounds))
+          (omega (arith, least, c.requires.in_bounds, c.requires.pair.same))
           l.invariant.4
           (also_block a.packed a.grows a.s.now m a.lo a.count a.last
           _ d.result _ d.ensures c.join_block-in-loop-done.ensures)

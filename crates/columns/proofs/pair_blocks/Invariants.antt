@@ -11,8 +11,10 @@ abbrev pub invariant-loop-done : goal.invariant-loop-done
 invariant-loop-done l =
     (l.done ≤ length l.initial.y)
     × (length l.y ≡ length l.initial.y) × (length l.z ≡ length l.initial.z)
-    × (l.y ≡ laid 0 l.done (also_at l.packed l.grows l.s (length l.initial.y) l.lo l.count l.first) l.initial.y)
-    × (l.z ≡ laid 0 l.done (also_at l.packed l.grows l.s (length l.initial.y) l.lo l.count l.last) l.initial.z)
+    × (l.y ≡ laid 0 l.done (also_at l.packed l.grows l.s (length l.initial.y) l.lo l.count l.first)
+    l.initial.y)
+    × (l.z ≡ laid 0 l.done (also_at l.packed l.grows l.s (length l.initial.y) l.lo l.count l.last)
+    l.initial.z)
 
 abbrev pub decreases-loop-done : goal.decreases-loop-done
 decreases-loop-done l = length l.initial.y - l.done

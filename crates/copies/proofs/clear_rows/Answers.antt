@@ -15,10 +15,10 @@ use Rattle.copies.proofs.clear_rows.Goals as goal
 pub loop-y-init : goal.loop-y-init
 loop-y-init c =
     let a = c.args in (
-  search rules,
-  search rules,
-  rows_none (cleared_row false a.t.now a.n a.u) a.n (cleared_length _ _ _ _) _,
-)
+      search rules,
+      search rules,
+      rows_none (cleared_row false a.t.now a.n a.u) a.n (cleared_length _ _ _ _) _,
+    )
 
 pub overflow_mul-a : goal.overflow_mul-a
 overflow_mul-a c = omega (arith, row_room c.args.n c.loop-y-test.true)

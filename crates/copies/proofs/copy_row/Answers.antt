@@ -14,10 +14,10 @@ loop-i-init c = (search rules, search rules, over_none _ _)
 pub cleared-requires : goal.cleared-requires
 cleared-requires c =
     let a = c.args in omega (
-  arith,
-  c.spare_at-v.ensures,
-  spare_small c.loop-i.i a.n a.u (omega arith),
-)
+      arith,
+      c.spare_at-v.ensures,
+      spare_small c.loop-i.i a.n a.u (omega arith),
+    )
 
 pub loop-i-preserved : goal.loop-i-preserved
 unfolding cleared_at

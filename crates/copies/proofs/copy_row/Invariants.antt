@@ -10,7 +10,8 @@ use Rattle.copies.proofs.copy_row.Given as goal
 
 abbrev pub invariant-loop-i : goal.invariant-loop-i
 invariant-loop-i l =
-    (l.i ≤ l.n) × (length l.t ≡ length l.initial.t) × (l.t ≡ firsts (cleared_at l.over l.s l.at l.n l.u) l.i ++ drop l.i l.initial.t)
+    (l.i ≤ l.n) × (length l.t ≡ length l.initial.t)
+    × (l.t ≡ firsts (cleared_at l.over l.s l.at l.n l.u) l.i ++ drop l.i l.initial.t)
 
 abbrev pub decreases-loop-i : goal.decreases-loop-i
 decreases-loop-i l = l.n - l.i

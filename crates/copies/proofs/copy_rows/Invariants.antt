@@ -10,7 +10,8 @@ use Rattle.copies.proofs.copy_rows.Given as goal
 
 abbrev pub invariant-loop-y : goal.invariant-loop-y
 invariant-loop-y l =
-    (l.y ≤ l.h) × (length l.t ≡ length l.initial.t) × (l.t ≡ joined (cleared_row l.over l.s l.n l.u) l.y ++ drop (l.y * l.n) l.initial.t)
+    (l.y ≤ l.h) × (length l.t ≡ length l.initial.t)
+    × (l.t ≡ joined (cleared_row l.over l.s l.n l.u) l.y ++ drop (l.y * l.n) l.initial.t)
 
 abbrev pub decreases-loop-y : goal.decreases-loop-y
 decreases-loop-y l = l.h - l.y

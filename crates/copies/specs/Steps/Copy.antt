@@ -1,5 +1,6 @@
 -- How a picture's bytes are copied: byte by byte, the spare low bits of each row's last byte to 0.
-use Rattle.std.specs.Prelude.{ℕ, ◌+◌, ◌-◌, ◌*◌, ◌/◌, ◌^◌, Bool, true, false, cond, List, ◌++◌, eqb, get_or, drop}
+use Rattle.std.specs.Prelude.{ℕ, ◌+◌, ◌-◌, ◌*◌, ◌/◌, ◌^◌, Bool, true, false, cond, List, ◌++◌, eqb}
+use Rattle.std.specs.Prelude.{get_or, drop}
 use Rattle.basics.specs.Lists.{firsts, joined}
 use Rattle.picture.specs.declared.Face.{Face}
 use Rattle.picture.specs.declared.Face.TheVariants.{AsIs, TurnedOver}

@@ -8,7 +8,8 @@ use Rattle.covering.proofs.first_bare.Given as goal
 
 abbrev pub invariant-loop-y : goal.invariant-loop-y
 invariant-loop-y l =
-    (l.y ≤ 64) × (least_from (bare l.rows l.link l.a l.rest) 0 64 ≡ least_from (bare l.rows l.link l.a l.rest) l.y (64 - l.y))
+    (l.y ≤ 64) × (least_from (bare l.rows l.link l.a l.rest) 0 64
+    ≡ least_from (bare l.rows l.link l.a l.rest) l.y (64 - l.y))
 
 abbrev pub decreases-loop-y : goal.decreases-loop-y
 decreases-loop-y l = 64 - l.y

@@ -10,7 +10,8 @@ use Rattle.covering.proofs.quarter.Given as goal
 
 abbrev pub invariant-loop-y : goal.invariant-loop-y
 invariant-loop-y l =
-    (l.y ≤ 64) × (l.part ≡ firsts (λ i. quarter_row (get_or l.rows i 0) i l.column l.row l.right l.lower) l.y ++ drop l.y
+    (l.y ≤ 64) × (l.part ≡ firsts (λ i. quarter_row (get_or l.rows i 0) i l.column l.row l.right l.lower) l.y
+    ++ drop l.y
     (replicate {A = ℕ} 64 0))
 
 abbrev pub decreases-loop-y : goal.decreases-loop-y

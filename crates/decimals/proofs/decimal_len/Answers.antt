@@ -12,15 +12,13 @@ pub returns-then-n-lt100 : goal.returns-then-n-lt100
 returns-then-n-lt100 c = (sym (two_digits _ c.if-n-lt10.false c.if-n-lt100.true), omega arith)
 
 pub returns-then-n-lt1000 : goal.returns-then-n-lt1000
-returns-then-n-lt1000 c =
-    (
+returns-then-n-lt1000 c = (
   sym (three_digits _ c.if-n-lt10.false c.if-n-lt100.false c.if-n-lt1000.true),
   omega arith,
 )
 
 pub returns : goal.returns
-returns c =
-    (
+returns c = (
   sym (four_digits _ c.if-n-lt10.false c.if-n-lt100.false c.if-n-lt1000.false),
   omega arith,
 )

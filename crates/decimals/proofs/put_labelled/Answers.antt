@@ -18,12 +18,12 @@ pub put_decimal-requires : goal.put_decimal-requires
 put_decimal-requires c =
     let a = c.args in
     piece_fits (piece_put (both_left a.at a.t.now a.s.now a.n c.requires)
-        (c.put_bytes-next.ensures.value, c.put_bytes-next.ensures.t_after))
+    (c.put_bytes-next.ensures.value, c.put_bytes-next.ensures.t_after))
 
 pub returns : goal.returns
 returns c =
     let a = c.args in
     let p = all_put (piece_put (piece_put (both_left a.at a.t.now a.s.now a.n c.requires)
-        (c.put_bytes-next.ensures.value, c.put_bytes-next.ensures.t_after))
-        (c.put_decimal.ensures.value, c.put_decimal.ensures.t_after)) in
-    record { value = p.0; t_after = p.1; }
+    (c.put_bytes-next.ensures.value, c.put_bytes-next.ensures.t_after))
+    (c.put_decimal.ensures.value, c.put_decimal.ensures.t_after)) in
+    record { value = p.0; t_after = p.1 }

@@ -48,19 +48,31 @@ returns-then-d-lt4 c = cells_short c.args.d.now c.if-d-lt4.true
 pub returns-then-d-cells_end : goal.returns-then-d-cells_end
 returns-then-d-cells_end c =
     let d = c.args.d.now in
-    rows_fail d (known (goal.at.returns-then-d-cells_end c).After-cells_end).0 (known (goal.at.returns-then-d-cells_end c).After-cells_end).1 (subst (λ n. length d < n) (end_known (goal.at.returns-then-d-cells_end c).After-cells_end) c.if-d-cells_end.true)
+    rows_fail d (known (goal.at.returns-then-d-cells_end c).After-cells_end).0
+    (known (goal.at.returns-then-d-cells_end c).After-cells_end).1
+    (subst (λ n. length d < n) (end_known (goal.at.returns-then-d-cells_end c).After-cells_end)
+    c.if-d-cells_end.true)
 
 pub padding_clear-requires : goal.padding_clear-requires
 padding_clear-requires c =
     let d = c.args.d.now in
-    holds_as OneBit _ _ _ _ _ _ (sym (ap length (tail_is d 4))) (sym (wide_known (goal.at.padding_clear-requires c).After-cells_end)) (sym (high_known (goal.at.padding_clear-requires c).After-cells_end))
-    (rows_hold d (known (goal.at.padding_clear-requires c).After-cells_end).0 (known (goal.at.padding_clear-requires c).After-cells_end).1 (rows_known (goal.at.padding_clear-requires c).Else-d-cells_end))
+    holds_as OneBit _ _ _ _ _ _ (sym (ap length (tail_is d 4)))
+    (sym (wide_known (goal.at.padding_clear-requires c).After-cells_end))
+    (sym (high_known (goal.at.padding_clear-requires c).After-cells_end))
+    (rows_hold d (known (goal.at.padding_clear-requires c).After-cells_end).0
+    (known (goal.at.padding_clear-requires c).After-cells_end).1
+    (rows_known (goal.at.padding_clear-requires c).Else-d-cells_end))
 
 pub returns-else-d-cells_end : goal.returns-else-d-cells_end
 returns-else-d-cells_end c =
     let d = c.args.d.now in
-    c.padding_clear.ensures ∙ padding_as _ _ _ _ _ _ (tail_is d 4) (wide_known (goal.at.returns-else-d-cells_end c).After-cells_end) (high_known (goal.at.returns-else-d-cells_end c).After-cells_end)
-    ∙ padding_decides d (known (goal.at.returns-else-d-cells_end c).After-cells_end).0 (known (goal.at.returns-else-d-cells_end c).After-cells_end).1 (rows_known (goal.at.returns-else-d-cells_end c).Else-d-cells_end)
+    c.padding_clear.ensures
+    ∙ padding_as _ _ _ _ _ _ (tail_is d 4)
+    (wide_known (goal.at.returns-else-d-cells_end c).After-cells_end)
+    (high_known (goal.at.returns-else-d-cells_end c).After-cells_end)
+    ∙ padding_decides d (known (goal.at.returns-else-d-cells_end c).After-cells_end).0
+    (known (goal.at.returns-else-d-cells_end c).After-cells_end).1
+    (rows_known (goal.at.returns-else-d-cells_end c).Else-d-cells_end)
 
 pub returns-else-head_made : goal.returns-else-head_made
 returns-else-head_made c =

@@ -65,9 +65,13 @@ heights_made-requires c =
     let m = made (goal.at.heights_made-requires c).Then-cells_made in
     let l = exact (goal.at.heights_made-requires c).Then-d-end in record {
       holds = holds_as OneBit _ _ _ _ _ _ (sym (ap length (tail_is d 4)))
-          (sym (wide (goal.at.heights_made-requires c).After-cells_end-end)) (sym (high (goal.at.heights_made-requires c).After-cells_end-end)) (cells_hold d m l);
-      holds_2 = holds_as EightBit _ _ _ _ _ _ (sym (ap length (tail_is d c.cells_end-end.result ∙ heights_part (goal.at.heights_made-requires c).After-cells_end-end)))
-          (sym (wide (goal.at.heights_made-requires c).After-cells_end-end)) (sym (high (goal.at.heights_made-requires c).After-cells_end-end)) (heights_hold d m l);
+          (sym (wide (goal.at.heights_made-requires c).After-cells_end-end))
+          (sym (high (goal.at.heights_made-requires c).After-cells_end-end)) (cells_hold d m l);
+      holds_2 = holds_as EightBit _ _ _ _ _ _
+          (sym (ap length (tail_is d c.cells_end-end.result
+          ∙ heights_part (goal.at.heights_made-requires c).After-cells_end-end)))
+          (sym (wide (goal.at.heights_made-requires c).After-cells_end-end))
+          (sym (high (goal.at.heights_made-requires c).After-cells_end-end)) (heights_hold d m l);
     }
 
 pub returns-then-d-end : goal.returns-then-d-end
@@ -75,12 +79,16 @@ returns-then-d-end c =
     let d = c.args.d.now in
     c.heights_made.ensures
     ∙ heights_as _ _ _ _ _ _ _ _ (tail_is d 4)
-    (tail_is d c.cells_end-end.result ∙ heights_part (goal.at.returns-then-d-end c).After-cells_end-end) (wide (goal.at.returns-then-d-end c).After-cells_end-end) (high (goal.at.returns-then-d-end c).After-cells_end-end)
-    ∙ heights_decide d (made (goal.at.returns-then-d-end c).Then-cells_made) (exact (goal.at.returns-then-d-end c).Then-d-end)
+    (tail_is d c.cells_end-end.result ∙ heights_part (goal.at.returns-then-d-end c).After-cells_end-end)
+    (wide (goal.at.returns-then-d-end c).After-cells_end-end)
+    (high (goal.at.returns-then-d-end c).After-cells_end-end)
+    ∙ heights_decide d (made (goal.at.returns-then-d-end c).Then-cells_made)
+    (exact (goal.at.returns-then-d-end c).Then-d-end)
 
 pub returns-else-d-end : goal.returns-else-d-end
 returns-else-d-end c =
-    length_fails c.args.d.now (made (goal.at.returns-else-d-end c).Then-cells_made) (λ q. c.if-d-end.false (q ∙ sym (whole (goal.at.returns-else-d-end c).After-cells_end-end)))
+    length_fails c.args.d.now (made (goal.at.returns-else-d-end c).Then-cells_made)
+    (λ q. c.if-d-end.false (q ∙ sym (whole (goal.at.returns-else-d-end c).After-cells_end-end)))
 
 pub returns-else-cells_made : goal.returns-else-cells_made
 unfolding well_weighted

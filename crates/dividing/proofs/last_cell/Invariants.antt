@@ -8,7 +8,8 @@ use Rattle.dividing.proofs.last_cell.Given as goal
 
 abbrev pub invariant-loop-k : goal.invariant-loop-k
 invariant-loop-k l =
-    (l.k ≤ 4096) × (least_from (λ i. cell_of l.rows (8191 - i)) 0 4096 ≡ least_from (λ i. cell_of l.rows (8191 - i)) l.k
+    (l.k ≤ 4096) × (least_from (λ i. cell_of l.rows (8191 - i)) 0 4096
+    ≡ least_from (λ i. cell_of l.rows (8191 - i)) l.k
     (4096 - l.k))
 
 abbrev pub decreases-loop-k : goal.decreases-loop-k

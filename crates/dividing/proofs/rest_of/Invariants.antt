@@ -10,7 +10,8 @@ use Rattle.dividing.proofs.rest_of.Given as goal
 
 abbrev pub invariant-loop-y : goal.invariant-loop-y
 invariant-loop-y l =
-    (l.y ≤ 64) × (l.rest ≡ firsts (λ i. rest_row l.rows l.link l.a i 64) l.y ++ drop l.y (replicate {A = ℕ} 64 0))
+    (l.y ≤ 64) × (l.rest ≡ firsts (λ i. rest_row l.rows l.link l.a i 64) l.y
+    ++ drop l.y (replicate {A = ℕ} 64 0))
 
 abbrev pub decreases-loop-y : goal.decreases-loop-y
 decreases-loop-y l = 64 - l.y

@@ -42,10 +42,13 @@ put_item-next-requires c =
 pub loop-x-preserved : goal.loop-x-preserved
 loop-x-preserved c =
     upto_more c.loop-x.invariant c.loop-x-test.true
-    (put_as _ (item (goal.at.loop-x-preserved c).After-value) _ (c.put_item-next.ensures.value, c.put_item-next.ensures.t_after))
+    (put_as _ (item (goal.at.loop-x-preserved c).After-value) _
+    (c.put_item-next.ensures.value, c.put_item-next.ensures.t_after))
 
 pub shape_of-t : goal.shape_of-t
 shape_of-t c = upto_long c.loop-x.invariant
 
 pub returns : goal.returns
-returns c = upto_all c.loop-x.invariant c.loop-x-test.false
+returns c =
+    let p = upto_all c.loop-x.invariant c.loop-x-test.false in
+    record { value = p.0; t_after = p.1 }

@@ -24,11 +24,15 @@ all_left c = none_put c.requires.y_in_bounds (line_is _ _ _ _)
 feed_left : (c : After-put_items-next) →
     LeftOf c.before.before.before.before.before ((10 ∷ []) ∷ [])
     c.put_items-next.result c.put_items-next.new.t
-feed_left c = piece_put (all_left c.before.before.before.before.before) (c.put_items-next.ensures.value, c.put_items-next.ensures.t_after)
+feed_left c = piece_put (all_left c.before.before.before.before.before)
+    (c.put_items-next.ensures.value, c.put_items-next.ensures.t_after)
 
 pub put_items-next-requires : goal.put_items-next-requires
 put_items-next-requires c =
-    (c.requires.w_le_most_pings, piece_fits (all_left c.before.before.before.before))
+    record {
+      w_le_most_pings = c.requires.w_le_most_pings;
+      w_in_bounds = piece_fits (all_left c.before.before.before.before);
+    }
 
 pub put_byte-requires : goal.put_byte-requires
 put_byte-requires c =
@@ -36,4 +40,6 @@ put_byte-requires c =
 
 pub returns : goal.returns
 returns c =
-    all_put (piece_put (feed_left (goal.at.returns c).After-put_items-next) (c.put_byte.ensures.value, c.put_byte.ensures.t_after))
+    let p = all_put (piece_put (feed_left (goal.at.returns c).After-put_items-next)
+    (c.put_byte.ensures.value, c.put_byte.ensures.t_after)) in
+    record { value = p.0; t_after = p.1 }

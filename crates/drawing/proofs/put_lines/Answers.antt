@@ -19,10 +19,10 @@ pub put_line-next-requires : goal.put_line-next-requires
 put_line-next-requires c =
     let p = c.requires.holds in
     let within = c.loop-y-test.true in
-    let a = c.args in (
-      (p.few_pings, omega (arith, row_room (row_bytes a.depth a.w) within, p.long)),
-      next_fits c.loop-y.invariant within,
-    )
+    let a = c.args in record {
+      w_le_most_pings = (p.few_pings, omega (arith, row_room (row_bytes a.depth a.w) within, p.long));
+      y_in_bounds = next_fits c.loop-y.invariant within;
+    }
 
 pub loop-y-preserved : goal.loop-y-preserved
 loop-y-preserved c =
@@ -34,4 +34,6 @@ shape_of-t c = upto_long c.loop-y.invariant
 
 pub returns : goal.returns
 unfolding row_lines line_of
-returns c = upto_all c.loop-y.invariant c.loop-y-test.false
+returns c =
+    let p = upto_all c.loop-y.invariant c.loop-y-test.false in
+    record { value = p.0; t_after = p.1 }

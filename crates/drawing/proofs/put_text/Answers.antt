@@ -27,7 +27,8 @@ all_left c = none_put (omega (arith, c.requires.kind_in_bounds)) (text_is _ _ _ 
 rows_left : (c : After-put_head-at)
     → LeftOf c.before.before.before.before.before
     (rows c.before.before.before.before.before ∷ []) c.put_head-at.result c.put_head-at.new.t
-rows_left c = piece_put (all_left c.before.before.before.before.before) (c.put_head-at.ensures.value ∙ sym (zero-add _), c.put_head-at.ensures.t_after)
+rows_left c = piece_put (all_left c.before.before.before.before.before)
+    (c.put_head-at.ensures.value ∙ sym (zero-add _), c.put_head-at.ensures.t_after)
 
 pub put_head-at-requires : goal.put_head-at-requires
 put_head-at-requires c = omega (arith, piece_fits (all_left c.before.before.before.before))
@@ -41,5 +42,7 @@ put_lines-requires c =
 
 pub returns : goal.returns
 returns c =
-    at_start _ _ _ _
-    (all_put (piece_put (rows_left (goal.at.returns c).After-put_head-at) (c.put_lines.ensures.value, c.put_lines.ensures.t_after)))
+    let p = at_start _ _ _ _
+    (all_put (piece_put (rows_left (goal.at.returns c).After-put_head-at)
+    (c.put_lines.ensures.value, c.put_lines.ensures.t_after))) in
+    record { value = p.0; t_after = p.1 }

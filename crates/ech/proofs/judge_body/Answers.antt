@@ -20,7 +20,8 @@ judged c = let a = c.args in
 
 pub returns-then-is_done : goal.returns-then-is_done
 returns-then-is_done c =
-    body_done _ _ _ _ _ _ _ c.depth_of.ensures (judged (goal.at.returns-then-is_done c).After-refusal-a) _ c.reported_kind.ensures
+    body_done _ _ _ _ _ _ _ c.depth_of.ensures (judged (goal.at.returns-then-is_done c).After-refusal-a) _
+    c.reported_kind.ensures
     (sym c.is_done.ensures ∙ c.if-is_done.true)
 
 pub returns : goal.returns

@@ -48,7 +48,8 @@ returns-then-is_done c =
     let g = c.judge_ech-head.ensures in
     record {
       given_back = g;
-      target_after = read_done a.file.now a.target.now _ _ g (done (goal.at.returns-then-is_done c).Then-is_done)
+      target_after = read_done a.file.now a.target.now _ _ g
+          (done (goal.at.returns-then-is_done c).Then-is_done)
           refl _ _ _ _
           c.depth_of-depth.ensures
           (c.face_of-face.ensures

@@ -24,7 +24,7 @@ copy_picture-requires c =
     let a = c.args in
     let p = c.requires.admitted in
     let u = c.copy.new.t in
-    subst
+    let p = subst
     (λ (d : Depth). Holds d (length a.source.now) a.w a.h
     × Holds d (length (take (length u - 10) (drop 10 u))) a.w a.h)
     (sym c.depth_of-depth.ensures) (
@@ -37,7 +37,8 @@ copy_picture-requires c =
             c.copy.auto.t,
             p.roomy,
           )),
-    )
+    ) in
+    record { holds = p.0; holds_2 = p.1 }
 
 pub returns : goal.returns
 returns c =

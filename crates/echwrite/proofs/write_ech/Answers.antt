@@ -19,7 +19,8 @@ done c = sym c.is_done.ensures ∙ c.if-is_done.true
 pub put_file-requires : goal.put_file-requires
 put_file-requires c =
     let a = c.args in
-    let e = write_answer_lem a.kind a.w a.h a.source.now a.target.now (known (goal.at.put_file-requires c).Then-is_known) _
+    let e = write_answer_lem a.kind a.w a.h a.source.now a.target.now
+    (known (goal.at.put_file-requires c).Then-is_known) _
     c.depth_of-depth.ensures _ c.retired.ensures _ c.refusal-a.ensures in
     let p = write_admitted a.kind a.w a.h a.source.now a.target.now
     (ap is_done (sym e) ∙ done (goal.at.put_file-requires c).Then-is_done) in
@@ -30,14 +31,20 @@ put_file-requires c =
 
 pub returns-then-is_done : goal.returns-then-is_done
 returns-then-is_done c =
-    write_done _ _ _ _ _ (known (goal.at.returns-then-is_done c).Then-is_known) _ c.depth_of-depth.ensures _ c.retired.ensures _
+    let p = write_done _ _ _ _ _ (known (goal.at.returns-then-is_done c).Then-is_known) _
+    c.depth_of-depth.ensures _ c.retired.ensures _
     c.refusal-a.ensures _ (done (goal.at.returns-then-is_done c).Then-is_done)
-    c.put_file.ensures
+    c.put_file.ensures in
+    record { result_value = p.0; target_after = p.1 }
 
 pub returns-then-is_known : goal.returns-then-is_known
 returns-then-is_known c =
-    write_refused _ _ _ _ _ (known (goal.at.returns-then-is_known c).Then-is_known) _ c.depth_of-depth.ensures _ c.retired.ensures _
-    c.refusal-a.ensures (sym c.is_done.ensures ∙ c.if-is_done.false)
+    let p = write_refused _ _ _ _ _ (known (goal.at.returns-then-is_known c).Then-is_known) _
+    c.depth_of-depth.ensures _ c.retired.ensures _
+    c.refusal-a.ensures (sym c.is_done.ensures ∙ c.if-is_done.false) in
+    record { result_value = p.0; target_after = p.1 }
 
 pub returns : goal.returns
-returns c = unknown _ _ _ _ _ Form refl (sym c.is_known.ensures ∙ c.if-is_known.false)
+returns c =
+    let p = unknown _ _ _ _ _ Form refl (sym c.is_known.ensures ∙ c.if-is_known.false) in
+    record { result_value = p.0; target_after = p.1 }

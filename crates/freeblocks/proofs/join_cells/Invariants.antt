@@ -8,7 +8,8 @@ use Rattle.freeblocks.proofs.join_cells.Given as goal
 
 abbrev pub invariant-loop-j : goal.invariant-loop-j
 invariant-loop-j l =
-    (l.j ≤ length l.cells) × (length l.acc ≡ 128) × (l.acc ≡ cells_at l.grows l.up l.initial.acc l.b l.i l.cells l.j)
+    (l.j ≤ length l.cells) × (length l.acc ≡ 128)
+    × (l.acc ≡ cells_at l.grows l.up l.initial.acc l.b l.i l.cells l.j)
 
 abbrev pub decreases-loop-j : goal.decreases-loop-j
 decreases-loop-j l = length l.cells - l.j

@@ -19,7 +19,11 @@ pub shape_of-t-then-shows : goal.shape_of-t-then-shows
 shape_of-t-then-shows c = c.loop-k.invariant.1
 
 pub returns-then-shows : goal.returns-then-shows
-returns-then-shows c = let l = c.loop-k in (l.invariant.0, l.invariant.2)
+returns-then-shows c =
+    let l = c.loop-k in record {
+      few = l.invariant.0;
+      bytes = l.invariant.2;
+    }
 
 pub loop-k-preserved : goal.loop-k-preserved
 loop-k-preserved c =

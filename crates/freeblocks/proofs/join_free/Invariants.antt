@@ -9,7 +9,8 @@ use Rattle.freeblocks.proofs.join_free.Given as goal
 
 abbrev pub invariant-loop-k : goal.invariant-loop-k
 invariant-loop-k l =
-    (l.k ≤ l.n) × (length l.t ≡ length l.initial.t) × (l.t ≡ laid 0 (128 * l.k) (row_at l.grows l.b l.rising l.others l.initial.t) l.initial.t)
+    (l.k ≤ l.n) × (length l.t ≡ length l.initial.t)
+    × (l.t ≡ laid 0 (128 * l.k) (row_at l.grows l.b l.rising l.others l.initial.t) l.initial.t)
 
 abbrev pub decreases-loop-k : goal.decreases-loop-k
 decreases-loop-k l = l.n - l.k

@@ -16,7 +16,7 @@ loop-i-preserved c =
     let l = c.loop-i in
     let a = c.args in (
       search rules,
-      over_more (λ m. turned_by a.grows (get_or a.t2 m 0)) l.w c.lesser_byte-w.result l.i
+      over_more (λ m. turned_by a.grows (get_or a.c m 0)) l.w c.lesser_byte-w.result l.i
           l.invariant.1
           (c.lesser_byte-w.ensures ∙ ap (min l.w) c.turned.ensures),
     )

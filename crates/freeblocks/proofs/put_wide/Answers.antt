@@ -14,7 +14,7 @@ loop-i-preserved c =
     let a = c.args in (
       search rules,
       simp length-set l.invariant.1,
-      laid_more a.at l.i (λ i. get_or a.t3 i 0) a.t.now l.t _ (omega arith) l.invariant.2 refl,
+      laid_more a.at l.i (λ i. get_or a.c i 0) a.t.now l.t _ (omega arith) l.invariant.2 refl,
     )
 
 pub shape_of-t : goal.shape_of-t

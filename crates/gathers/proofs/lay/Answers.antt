@@ -20,10 +20,10 @@ lay_blocks-requires c =
 
 pub block-c-requires : goal.block-c-requires
 block-c-requires c =
-    (
-  c.requires.at_nonzero.0,
-  λ j h. omega (arith, c.requires.reached j h, c.requires.at_nonzero.1.0),
-)
+    record {
+      at_nonzero = c.requires.at_nonzero.0;
+      reached = λ j h. omega (arith, c.requires.reached j h, c.requires.at_nonzero.1.0);
+    }
 
 pub returns : goal.returns
 returns c =

@@ -13,11 +13,11 @@ loop-k-init c = (search rules, (search rules, laid_none _ _ _))
 
 pub block-c-requires : goal.block-c-requires
 block-c-requires c =
-    (
-  c.requires.at_nonzero.0,
-  λ j h. omega
-      (arith, c.requires.reached j h),
-)
+    record {
+      at_nonzero = c.requires.at_nonzero.0;
+      reached = λ j h. omega
+      (arith, c.requires.reached j h);
+    }
 
 pub loop-k-preserved : goal.loop-k-preserved
 loop-k-preserved c =

@@ -36,14 +36,18 @@ row_heights_made-requires c =
 
 pub loop-y-preserved : goal.loop-y-preserved
 loop-y-preserved c =
-    let l = c.loop-y in
-    (search rules, all_more (test (goal.at.loop-y-preserved c).In-loop-y) l.y l.invariant.1 (row (goal.at.loop-y-preserved c).After-row_heights_made _ c.if-row_heights_made.true))
+    let l = c.loop-y in (
+      search rules,
+      all_more (test (goal.at.loop-y-preserved c).In-loop-y) l.y l.invariant.1
+          (row (goal.at.loop-y-preserved c).After-row_heights_made _ c.if-row_heights_made.true),
+    )
 
 pub returns-else-row_heights_made : goal.returns-else-row_heights_made
 unfolding heights_made
 returns-else-row_heights_made c =
     sym (all_stop (test (goal.at.returns-else-row_heights_made c).In-loop-y) c.loop-y.y c.args.h
-    c.loop-y-test.true (row (goal.at.returns-else-row_heights_made c).After-row_heights_made _ c.if-row_heights_made.false))
+    c.loop-y-test.true (row (goal.at.returns-else-row_heights_made c).After-row_heights_made _
+    c.if-row_heights_made.false))
 
 pub returns : goal.returns
 unfolding heights_made

@@ -38,8 +38,11 @@ height_made-requires c = tt
 
 pub loop-c-preserved : goal.loop-c-preserved
 loop-c-preserved c =
-    let l = c.loop-c in
-    (search rules, all_more (test (goal.at.loop-c-preserved c).In-loop-c) l.c l.invariant.1 (sym (column (goal.at.loop-c-preserved c).After-height_made) ∙ c.if-height_made.true))
+    let l = c.loop-c in (
+      search rules,
+      all_more (test (goal.at.loop-c-preserved c).In-loop-c) l.c l.invariant.1
+          (sym (column (goal.at.loop-c-preserved c).After-height_made) ∙ c.if-height_made.true),
+    )
 
 pub returns-else-height_made : goal.returns-else-height_made
 unfolding heights_made_in

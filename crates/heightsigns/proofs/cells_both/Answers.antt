@@ -25,12 +25,20 @@ one_at_most false = omega arith
 up : (c : After-entry-k) → c.loop-c.n
     < c.args.wide
 up c = let l = c.loop-c in
-    omega (arith, few c.before.before.before.before.before.before.before.before.before.before true l.n l.c l.invariant.0 l.invariant.2.0)
+    omega (
+      arith,
+      few c.before.before.before.before.before.before.before.before.before.before true l.n l.c
+          l.invariant.0 l.invariant.2.0,
+    )
 
 down : (c : After-entry-k) → c.loop-c.m
     < c.args.wide
 down c = let l = c.loop-c in
-    omega (arith, few c.before.before.before.before.before.before.before.before.before.before false l.m l.c l.invariant.0 l.invariant.2.1)
+    omega (
+      arith,
+      few c.before.before.before.before.before.before.before.before.before.before false l.m l.c
+          l.invariant.0 l.invariant.2.1,
+    )
 
 rooms : (c : After-entry-k)
     → let a = c.args in
@@ -84,7 +92,8 @@ loop-c-preserved c =
     let a = c.args in
     let g = c.height_at-g.ensures in
     let k : c.entry-k.result ≡ entry_of a.grows a.o l.c
-    (get_or a.heights.now (a.first + l.c) 0) = c.entry-k.ensures ∙ ap₂ (λ p q. 256 * q + p) c.size_of.ensures.0
+    (get_or a.heights.now (a.first + l.c) 0) = c.entry-k.ensures
+    ∙ ap₂ (λ p q. 256 * q + p) c.size_of.ensures.0
     c.cell_place.ensures.0 ∙ ap (entry_of a.grows a.o l.c) g in (
       search rules,
       (simp length-set l.invariant.1.0, simp length-set l.invariant.1.1),
@@ -118,7 +127,7 @@ returns c =
         l.invariant.2.1 ∙ ap (count_of false a.word a.heights.now a.first) e,
       );
       up = l.invariant.3.0 ∙ ap (cells_of a.grows true a.word a.o a.heights.now a.first
-            a.rising.now) e;
+          a.rising.now) e;
       down = l.invariant.3.1 ∙ ap (cells_of a.grows false a.word a.o a.heights.now a.first
-            a.others.now) e;
+          a.others.now) e;
     }

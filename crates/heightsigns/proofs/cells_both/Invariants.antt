@@ -9,8 +9,10 @@ use Rattle.heightsigns.proofs.cells_both.Given as goal
 
 abbrev pub invariant-loop-c : goal.invariant-loop-c
 invariant-loop-c l =
-    (l.c ≤ l.wide) × ((length l.rising ≡ length l.initial.rising) × (length l.others ≡ length l.initial.others))
-    × ((l.n ≡ count_of true l.word l.heights l.first l.c) × (l.m ≡ count_of false l.word l.heights l.first l.c))
+    (l.c ≤ l.wide) × ((length l.rising ≡ length l.initial.rising)
+    × (length l.others ≡ length l.initial.others))
+    × ((l.n ≡ count_of true l.word l.heights l.first l.c)
+    × (l.m ≡ count_of false l.word l.heights l.first l.c))
     × ((l.rising ≡ cells_of l.grows true l.word l.o l.heights l.first l.initial.rising l.c)
     × (l.others ≡ cells_of l.grows false l.word l.o l.heights l.first l.initial.others l.c))
 

@@ -1,5 +1,6 @@
 -- The cells of a row word that are of one side, as numbers.
-use Rattle.std.specs.Prelude.{ℕ, zero, suc, ◌+◌, ◌*◌, ◌≤◌, ◌<◌, ◌≡◌, Bool, true, cond, ◌&&◌, List, length, get_or, set}
+use Rattle.std.specs.Prelude.{ℕ, zero, suc, ◌+◌, ◌*◌, ◌≤◌, ◌<◌, ◌≡◌, Bool, true, cond, ◌&&◌, List, length}
+use Rattle.std.specs.Prelude.{get_or, set}
 use Rattle.element.specs.Record.{cell_on}
 use Rattle.packedline.specs.Steps.Cells.{place_of}
 use Rattle.heightsigns.specs.Steps.Sides.{side_of, size_of}

@@ -11,6 +11,7 @@ pack_read-requires c = pnm_packable OneBit _ _ _ c.read_pbm-got.ensures.given_ba
 pub returns : goal.returns
 returns c =
     record {
-      number = c.pack_read.ensures ∙ pnm_packed OneBit _ _ _ _ c.pack.ensures c.read_pbm-got.ensures.given_back;
+      number = c.pack_read.ensures
+          ∙ pnm_packed OneBit _ _ _ _ c.pack.ensures c.read_pbm-got.ensures.given_back;
       bytes = c.read_pbm-got.ensures.target_after;
     }

@@ -11,6 +11,7 @@ pack_read-requires c = pnm_packable EightBit _ _ _ c.read_pgm-got.ensures.given_
 pub returns : goal.returns
 returns c =
     record {
-      number = c.pack_read.ensures ∙ pnm_packed EightBit _ _ _ _ c.pack.ensures c.read_pgm-got.ensures.given_back;
+      number = c.pack_read.ensures
+          ∙ pnm_packed EightBit _ _ _ _ c.pack.ensures c.read_pgm-got.ensures.given_back;
       bytes = c.read_pgm-got.ensures.target_after;
     }

@@ -29,7 +29,8 @@ bytes_known c = let a = c.args in
 passed_known : (c : Else-not-is_passed) (after : Told) → let a = c.args in
     after ≡ refuse (picture_tests a.padding a.depth a.w a.h a.s.now) after
 passed_known c after = let a = c.args in
-    picture_passed a.padding a.depth a.w a.h a.s.now after (size_known (goal.at.Else-not-is_passed c).Else-not-sized) _
+    picture_passed a.padding a.depth a.w a.h a.s.now after
+    (size_known (goal.at.Else-not-is_passed c).Else-not-sized) _
     c.picture_bytes-n.ensures c.if-s-n.false
     (sym c.is_passed.ensures ∙ c.if-not-is_passed.false)
 
@@ -49,7 +50,8 @@ pub returns-then-s-n : goal.returns-then-s-n
 unfolding told
 returns-then-s-n c =
     let a = c.args in
-    refused_source a.padding a.depth a.w a.h a.s.now _ (size_known (goal.at.returns-then-s-n c).Else-not-sized) _
+    refused_source a.padding a.depth a.w a.h a.s.now _
+    (size_known (goal.at.returns-then-s-n c).Else-not-sized) _
     c.picture_bytes-n.ensures c.if-s-n.true
 
 pub is_passed-requires : goal.is_passed-requires
@@ -62,7 +64,8 @@ pub returns-then-not-is_passed : goal.returns-then-not-is_passed
 unfolding told
 returns-then-not-is_passed c =
     let a = c.args in
-    refused_pad a.padding a.depth a.w a.h a.s.now _ (size_known (goal.at.returns-then-not-is_passed c).Else-not-sized) _
+    refused_pad a.padding a.depth a.w a.h a.s.now _
+    (size_known (goal.at.returns-then-not-is_passed c).Else-not-sized) _
     c.picture_bytes-n.ensures c.if-s-n.false
     (sym c.is_passed.ensures ∙ c.if-not-is_passed.true)
 

@@ -30,11 +30,11 @@ loop-i-smaller c = omega arith
 pub loop-i-preserved : goal.loop-i-preserved
 loop-i-preserved c =
     let l = c.loop-i in (
-  search rules,
-  length-set l.up l.i c.root-r.result
-      ∙ l.invariant.1,
-  flat_more _ l.up l.i c.root-r.result l.invariant.2 c.root-r.ensures,
-)
+      search rules,
+      length-set l.up l.i c.root-r.result
+          ∙ l.invariant.1,
+      flat_more _ l.up l.i c.root-r.result l.invariant.2 c.root-r.ensures,
+    )
 
 pub shape_of-up : goal.shape_of-up
 shape_of-up c = c.loop-i.invariant.1

@@ -26,11 +26,11 @@ loop-i-smaller c = omega arith
 pub loop-i-preserved : goal.loop-i-preserved
 loop-i-preserved c =
     let l = c.loop-i in let a = c.args in (
-  search rules,
-  length-set l.up l.i l.i ∙ l.invariant.1,
-  alone_more a.up.now l.up l.i
-      (omega arith) l.invariant.2,
-)
+      search rules,
+      length-set l.up l.i l.i ∙ l.invariant.1,
+      alone_more a.up.now l.up l.i
+          (omega arith) l.invariant.2,
+    )
 
 pub shape_of-up : goal.shape_of-up
 shape_of-up c = c.loop-i.invariant.1

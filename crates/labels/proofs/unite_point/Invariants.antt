@@ -9,7 +9,8 @@ use Rattle.labels.proofs.unite_point.Given as goal
 
 abbrev pub invariant-loop-k : goal.invariant-loop-k
 invariant-loop-k l =
-    (l.k ≤ 5) × (length l.up ≡ length l.initial.up) × (l.up ≡ mates_united (point_of l.s l.w) l.w l.h l.i l.initial.up l.k)
+    (l.k ≤ 5) × (length l.up ≡ length l.initial.up)
+    × (l.up ≡ mates_united (point_of l.s l.w) l.w l.h l.i l.initial.up l.k)
 
 abbrev pub decreases-loop-k : goal.decreases-loop-k
 decreases-loop-k l = 5 - l.k

@@ -15,10 +15,10 @@ unite_point-requires c =
     let l = c.loop-i in record {
       framed = c.requires.framed;
       places = record {
-          room = omega (arith, l.invariant.1, c.requires.places.room);
-          few = omega
-              (arith, l.invariant.1, c.requires.places.few);
-        };
+        room = omega (arith, l.invariant.1, c.requires.places.room);
+        few = omega
+            (arith, l.invariant.1, c.requires.places.few);
+      };
       i_bound = c.loop-i-test.true;
     }
 

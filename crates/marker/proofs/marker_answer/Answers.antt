@@ -60,21 +60,24 @@ unfolding told
 returns-then-mask-n c =
     let a = c.args in
     not_seen _ _ (no_mask a.w a.h a.marker.now a.mask.now
-    (size_known (goal.at.returns-then-mask-n c).Else-not-sized) (marker_known (goal.at.returns-then-mask-n c).Else-marker-n)
+    (size_known (goal.at.returns-then-mask-n c).Else-not-sized)
+    (marker_known (goal.at.returns-then-mask-n c).Else-marker-n)
     (λ e. c.if-mask-n.true (e ∙ sym (bytes_known (goal.at.returns-then-mask-n c).Else-marker-n))))
 
 pub lies_within-requires : goal.lies_within-requires
 lies_within-requires c =
     let a = c.args in
     let z = size_known (goal.at.lies_within-requires c).Else-not-sized in record {
-      holds = holds Free OneBit a.w a.h a.marker.now _ z (le_of_eq (sym (marker_known (goal.at.lies_within-requires c).Else-marker-n)));
+      holds = holds Free OneBit a.w a.h a.marker.now _ z
+          (le_of_eq (sym (marker_known (goal.at.lies_within-requires c).Else-marker-n)));
       holds_2 = holds Free OneBit a.w a.h a.mask.now _ z (le_of_eq (sym (mask_known c)));
     }
 
 pub returns-then-lies_within : goal.returns-then-lies_within
 unfolding told
 returns-then-lies_within c =
-    (seen _ _ _ (fits_known (goal.at.returns-then-lies_within c).Else-mask-n) c.lies_within.ensures).0 c.if-lies_within.true
+    (seen _ _ _ (fits_known (goal.at.returns-then-lies_within c).Else-mask-n) c.lies_within.ensures).0
+    c.if-lies_within.true
 
 pub returns : goal.returns
 unfolding told

@@ -16,7 +16,8 @@ byte_within_at a b u i = byte_within (get_or a i 0) (get_or b i 0) u
 
 -- of each of n bytes from the place `at` on, of the last but for its u lowest bits
 unfoldable pub row_within : List ℕ → List ℕ → ℕ → ℕ → ℕ → Bool
-row_within a b at n u = all (λ i. byte_within_at a b 0 (at + i)) (n - 1) && byte_within_at a b u (at + (n - 1))
+row_within a b at n u = all (λ i. byte_within_at a b 0 (at + i)) (n - 1)
+    && byte_within_at a b u (at + (n - 1))
 
 -- and of each of h rows
 unfoldable pub rows_within : List ℕ → List ℕ → ℕ → ℕ → ℕ → Bool

@@ -12,17 +12,17 @@ returns-then-x-w c = simp (ne_eqb _ _ c.if-x-eq0.false, eq-eqb _ _ c.if-x-w.true
 pub returns-then-y-eq0 : goal.returns-then-y-eq0
 returns-then-y-eq0 c =
     simp (
-  ne_eqb _ _ c.if-x-eq0.false,
-  ne_eqb _ _ c.if-x-w.false,
-  eq-eqb _ _
-      c.if-y-eq0.true,
-)
+      ne_eqb _ _ c.if-x-eq0.false,
+      ne_eqb _ _ c.if-x-w.false,
+      eq-eqb _ _
+          c.if-y-eq0.true,
+    )
 
 pub returns : goal.returns
 returns c =
     simp (
-  ne_eqb _ _ c.if-x-eq0.false,
-  ne_eqb _ _ c.if-x-w.false,
-  ne_eqb _ _
-      c.if-y-eq0.false,
-)
+      ne_eqb _ _ c.if-x-eq0.false,
+      ne_eqb _ _ c.if-x-w.false,
+      ne_eqb _ _
+          c.if-y-eq0.false,
+    )

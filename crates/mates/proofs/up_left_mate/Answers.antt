@@ -41,23 +41,23 @@ pub returns-then-point : goal.returns-then-point
 unfolding up_left_mate
 returns-then-point c =
     simp (
-  ne_eqb _ _ c.if-i-w-eq0.false,
-  ne_eqb _ _
-      c.if-i-w-eq0-2.false,
-  ne_eqb _ _
-      (λ z. c.if-point-eq0.false (c.point.ensures ∙ z)),
-  eq-eqb _ _ (sym c.point-2.ensures ∙ c.if-point.true ∙ c.point-3.ensures),
-)
+      ne_eqb _ _ c.if-i-w-eq0.false,
+      ne_eqb _ _
+          c.if-i-w-eq0-2.false,
+      ne_eqb _ _
+          (λ z. c.if-point-eq0.false (c.point.ensures ∙ z)),
+      eq-eqb _ _ (sym c.point-2.ensures ∙ c.if-point.true ∙ c.point-3.ensures),
+    )
 
 pub returns : goal.returns
 unfolding up_left_mate
 returns c =
     simp (
-  ne_eqb _ _ c.if-i-w-eq0.false,
-  ne_eqb _ _
-      c.if-i-w-eq0-2.false,
-  ne_eqb _ _
-      (λ z. c.if-point-eq0.false (c.point.ensures ∙ z)),
-  ne_eqb _ _ (λ z. c.if-point.false (c.point-2.ensures ∙ z
-      ∙ sym c.point-3.ensures)),
-)
+      ne_eqb _ _ c.if-i-w-eq0.false,
+      ne_eqb _ _
+          c.if-i-w-eq0-2.false,
+      ne_eqb _ _
+          (λ z. c.if-point-eq0.false (c.point.ensures ∙ z)),
+      ne_eqb _ _ (λ z. c.if-point.false (c.point-2.ensures ∙ z
+          ∙ sym c.point-3.ensures)),
+    )

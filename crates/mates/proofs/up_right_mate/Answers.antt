@@ -39,11 +39,11 @@ point-requires-2 c =
     record {
       framed = c.requires.framed;
       i_bound = omega (
-    arith,
-    above _ _ c.if-i-w-eq0.false,
-    c.requires.framed.some_pings,
-    c.requires.i_bound,
-  );
+        arith,
+        above _ _ c.if-i-w-eq0.false,
+        c.requires.framed.some_pings,
+        c.requires.i_bound,
+      );
     }
 
 pub overflow_sub-result : goal.overflow_sub-result
@@ -53,23 +53,23 @@ pub returns-then-point : goal.returns-then-point
 unfolding up_right_mate
 returns-then-point c =
     simp (
-  ne_eqb _ _ c.if-i-w-eq0.false,
-  ne_eqb _ _
-      c.if-i-w.false,
-  ne_eqb _ _
-      (λ z. c.if-point-eq0.false (c.point.ensures ∙ z)),
-  eq-eqb _ _ (sym c.point-2.ensures ∙ c.if-point.true ∙ c.point-3.ensures),
-)
+      ne_eqb _ _ c.if-i-w-eq0.false,
+      ne_eqb _ _
+          c.if-i-w.false,
+      ne_eqb _ _
+          (λ z. c.if-point-eq0.false (c.point.ensures ∙ z)),
+      eq-eqb _ _ (sym c.point-2.ensures ∙ c.if-point.true ∙ c.point-3.ensures),
+    )
 
 pub returns : goal.returns
 unfolding up_right_mate
 returns c =
     simp (
-  ne_eqb _ _ c.if-i-w-eq0.false,
-  ne_eqb _ _
-      c.if-i-w.false,
-  ne_eqb _ _
-      (λ z. c.if-point-eq0.false (c.point.ensures ∙ z)),
-  ne_eqb _ _ (λ z. c.if-point.false (c.point-2.ensures ∙ z
-      ∙ sym c.point-3.ensures)),
-)
+      ne_eqb _ _ c.if-i-w-eq0.false,
+      ne_eqb _ _
+          c.if-i-w.false,
+      ne_eqb _ _
+          (λ z. c.if-point-eq0.false (c.point.ensures ∙ z)),
+      ne_eqb _ _ (λ z. c.if-point.false (c.point-2.ensures ∙ z
+          ∙ sym c.point-3.ensures)),
+    )

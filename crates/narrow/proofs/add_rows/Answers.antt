@@ -19,7 +19,10 @@ returns-then-z-a c =
 pub rows_of-x-requires : goal.rows_of-x-requires
 rows_of-x-requires c =
     let z = c.end_row-z.ensures in
-    let l = c.if-z-a.false in (c.requires.n_bound.0, (omega (arith, z, c.requires.n_bound.1.0), (omega (arith, l), c.requires.n_bound.1.1)))
+    let l = c.if-z-a.false in (
+      c.requires.n_bound.0,
+      (omega (arith, z, c.requires.n_bound.1.0), (omega (arith, l), c.requires.n_bound.1.1)),
+    )
 
 pub returns : goal.returns
 unfolding masked_of

@@ -12,10 +12,10 @@ use Rattle.narrow.proofs.make_row.Goals as goal
 pub loop-r-init : goal.loop-r-init
 loop-r-init c =
     let a = c.args in (
-  search rules,
-  found_none a.k.grows (turned_by a.k.grows a.k.over) a.s.now a.w (length a.t.now) a.h
-      a.y.0 a.o.origin.ping.0 a.o.origin.bin.0 (λ i. masked_of (get_or a.words.now i 0) a.o.w),
-)
+      search rules,
+      found_none a.k.grows (turned_by a.k.grows a.k.over) a.s.now a.w (length a.t.now) a.h
+          a.y.0 a.o.origin.ping.0 a.o.origin.bin.0 (λ i. masked_of (get_or a.words.now i 0) a.o.w),
+    )
 
 pub loop-r-smaller : goal.loop-r-smaller
 loop-r-smaller c = let e = c.same_end-e.ensures in omega (arith, e.some, e.few)

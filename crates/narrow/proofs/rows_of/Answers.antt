@@ -23,13 +23,13 @@ row_at-requires c = (omega (arith, near c), search rules)
 pub loop-i-preserved : goal.loop-i-preserved
 loop-i-preserved c =
     let l = c.loop-i in let a = c.args in (
-  search rules,
-  (
-    search rules,
-    rows_more a.over a.s.now a.w a.n a.from l.i l.v _ _ l.invariant.0 l.invariant.1.1
-        c.row_at.ensures c.joined-v.ensures,
-  ),
-)
+      search rules,
+      (
+        search rules,
+        rows_more a.over a.s.now a.w a.n a.from l.i l.v _ _ l.invariant.0 l.invariant.1.1
+            c.row_at.ensures c.joined-v.ensures,
+      ),
+    )
 
 pub returns : goal.returns
 returns c =

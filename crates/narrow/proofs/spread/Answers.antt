@@ -37,15 +37,22 @@ overflow_sub-e-in-loop-c c =
     omega (arith, some (goal.at.overflow_sub-e-in-loop-c c).After-next_cell-e)
 
 pub windows-requires : goal.windows-requires
-windows-requires c =
-    (omega (arith, some (goal.at.windows-requires c).After-next_cell-e), omega (arith, c.next_cell-e.ensures.few))
+windows-requires c = (
+  omega (arith, some (goal.at.windows-requires c).After-next_cell-e),
+  omega (arith, c.next_cell-e.ensures.few),
+)
 
 pub next_cell-c-requires-in-loop-c : goal.next_cell-c-requires-in-loop-c
 next_cell-c-requires-in-loop-c c = c.next_cell-e.ensures.few
 
 pub loop-c-smaller : goal.loop-c-smaller
 loop-c-smaller c =
-    omega (arith, some (goal.at.loop-c-smaller c).After-next_cell-e, c.next_cell-c-in-loop-c.ensures.onward, c.next_cell-c-in-loop-c.ensures.few)
+    omega (
+      arith,
+      some (goal.at.loop-c-smaller c).After-next_cell-e,
+      c.next_cell-c-in-loop-c.ensures.onward,
+      c.next_cell-c-in-loop-c.ensures.few,
+    )
 
 pub loop-c-preserved : goal.loop-c-preserved
 loop-c-preserved c =

@@ -10,7 +10,8 @@ use Rattle.narrow.proofs.spread.Given as goal
 
 abbrev pub invariant-loop-c : goal.invariant-loop-c
 invariant-loop-c l =
-    (l.c ≤ 64) × ((l.c < 64 → cell_on64 l.word l.c ≡ true) × Through l.initial.r l.x l.grows l.word l.o l.c l.r)
+    (l.c ≤ 64) × ((l.c < 64 → cell_on64 l.word l.c ≡ true)
+    × Through l.initial.r l.x l.grows l.word l.o l.c l.r)
 
 abbrev pub decreases-loop-c : goal.decreases-loop-c
 decreases-loop-c l = 64 - l.c

@@ -15,13 +15,13 @@ loop-m-init c = (search rules, (search rules, window_one _ 1 refl))
 pub loop-m-preserved : goal.loop-m-preserved
 loop-m-preserved c =
     let l = c.loop-m in (
-  search rules,
-  (
-    search rules,
-    window_more _ l.v _ _ l.m l.m (l.m + l.m) (le_refl l.m) refl l.invariant.1.1
-        c.moved.ensures c.joined-v.ensures,
-  ),
-)
+      search rules,
+      (
+        search rules,
+        window_more _ l.v _ _ l.m l.m (l.m + l.m) (le_refl l.m) refl l.invariant.1.1
+            c.moved.ensures c.joined-v.ensures,
+      ),
+    )
 
 pub returns : goal.returns
 returns c =

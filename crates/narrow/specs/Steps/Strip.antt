@@ -1,5 +1,6 @@
 -- A padded row in three words: the first place is the highest digit of the first word.
-use Rattle.std.specs.Prelude.{ℕ, zero, suc, ◌+◌, ◌-◌, ◌*◌, ◌/◌, ◌%◌, ◌^◌, ◌≤◌, ◌<◌, ◌≡◌, Bool, true, false, cond, ◌&&◌, List, leb, ltb, get_or}
+use Rattle.std.specs.Prelude.{ℕ, zero, suc, ◌+◌, ◌-◌, ◌*◌, ◌/◌, ◌%◌, ◌^◌, ◌≤◌, ◌<◌, ◌≡◌, Bool, true}
+use Rattle.std.specs.Prelude.{false, cond, ◌&&◌, List, leb, ltb, get_or}
 use Rattle.basics.specs.Bits.{bit, digits}
 use Rattle.packedline.specs.Steps.Cells.{cell_on64, place_of}
 use Rattle.packedline.specs.Steps.Line.{faced_point}

@@ -75,14 +75,20 @@ overflow_cast-result c =
 
 pub returns-then-is_done : goal.returns-then-is_done
 returns-then-is_done c =
-    let q = sym c.is_done.ensures ∙ c.if-is_done.true in (
-      back_done _ _ _ (answered (goal.at.returns-then-is_done c).After-region_refusal-no) _ (as_many (goal.at.returns-then-is_done c).After-inner_regions-k) q,
-      made_by_lem c.args.list.now _ _ _ (answered (goal.at.returns-then-is_done c).After-region_refusal-no) _ q c.list_all.ensures,
-    )
+    let g = goal.at.returns-then-is_done c in
+    let q = sym c.is_done.ensures ∙ c.if-is_done.true in
+    record {
+      given_back = back_done _ _ _ (answered g.After-region_refusal-no) _
+          (as_many g.After-inner_regions-k) q;
+      list_after = made_by_lem c.args.list.now _ _ _ (answered g.After-region_refusal-no) _ q
+          c.list_all.ensures;
+    }
 
 pub returns : goal.returns
 returns c =
-    let q = sym c.is_done.ensures ∙ c.if-is_done.false in record {
-      given_back = back_refused _ _ _ (answered (goal.at.returns c).After-region_refusal-no) q;
-      list_after = kept_by c.args.list.now _ _ _ (answered (goal.at.returns c).After-region_refusal-no) q;
+    let g = goal.at.returns c in
+    let q = sym c.is_done.ensures ∙ c.if-is_done.false in
+    record {
+      given_back = back_refused _ _ _ (answered g.After-region_refusal-no) q;
+      list_after = kept_by c.args.list.now _ _ _ (answered g.After-region_refusal-no) q;
     }

@@ -38,27 +38,29 @@ pub list_labels-requires : goal.list_labels-requires
 list_labels-requires c =
     let a = c.args in
     let l = c.label in
-    labelled_of a.source.now _ a.w a.h (known (goal.at.list_labels-requires c).Then-is_done) _ l.ensures
-    (omega (arith, l.auto.up, (known (goal.at.list_labels-requires c).Then-is_done).few_points))
+    let f = known (goal.at.list_labels-requires c).Then-is_done in
+    labelled_of a.source.now _ a.w a.h f _ l.ensures (omega (arith, l.auto.up, f.few_points))
 
 pub returns-then-is_done : goal.returns-then-is_done
 returns-then-is_done c =
     let a = c.args in
     let l = c.label in
-    (
-      λ R f. back_as _ _ _ _ _
-          (answer_as a.source.now _ a.w a.h (known (goal.at.returns-then-is_done c).Then-is_done) _ l.ensures R f (passed (goal.at.returns-then-is_done c).Then-is_done) _)
-          (as_many a.source.now _ a.w a.h (known (goal.at.returns-then-is_done c).Then-is_done) _ l.ensures R f) c.list_labels.ensures.given_back,
-      λ R f. c.list_labels.ensures.list_after
-          ∙ list_as a.source.now _ a.w a.h (known (goal.at.returns-then-is_done c).Then-is_done) _ l.ensures R f (passed (goal.at.returns-then-is_done c).Then-is_done) a.list.now,
-    )
+    let t = (goal.at.returns-then-is_done c).Then-is_done in
+    record {
+      back = λ R f. back_as _ _ _ _ _
+          (answer_as a.source.now _ a.w a.h (known t) _ l.ensures R f (passed t) _)
+          (as_many a.source.now _ a.w a.h (known t) _ l.ensures R f) c.list_labels.ensures.given_back;
+      numbers = λ R f. c.list_labels.ensures.list_after
+          ∙ list_as a.source.now _ a.w a.h (known t) _ l.ensures R f (passed t) a.list.now;
+    }
 
 pub returns : goal.returns
 returns c =
     let a = c.args in
     let n = c.frame_refusal-no.ensures in
     let q = sym c.is_done.ensures ∙ c.if-is_done.false in
-    let d = ap is_done (sym n) ∙ q in record {
+    let d = ap is_done (sym n) ∙ q in
+    record {
       back = λ R f. back_refused _ _ _ (n ∙ stopped R a.w a.h _ _ d) q;
       numbers = λ R f. kept_by a.list.now _ _ _ (n ∙ stopped R a.w a.h _ _ d) q;
     }

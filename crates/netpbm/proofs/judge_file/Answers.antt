@@ -15,11 +15,13 @@ pub returns-then-is_formed : goal.returns-then-is_formed
 returns-then-is_formed c =
     let a = c.args in
     formed_judged a.depth a.file.now a.found c.requires a.room
-    (sym (known (goal.at.returns-then-is_formed c).After-is_formed) ∙ c.if-is_formed.true) _ (tail_is a.file.now a.found.at) _
+    (sym (known (goal.at.returns-then-is_formed c).After-is_formed) ∙ c.if-is_formed.true) _
+    (tail_is a.file.now a.found.at) _
     c.judge_raster.ensures
 
 pub returns : goal.returns
 returns c =
     let a = c.args in
-    unformed a.depth a.file.now a.found c.requires a.room (sym (known (goal.at.returns c).After-is_formed) ∙ c.if-is_formed.false) _
+    unformed a.depth a.file.now a.found c.requires a.room
+    (sym (known (goal.at.returns c).After-is_formed) ∙ c.if-is_formed.false) _
     c.refused.ensures

@@ -18,9 +18,11 @@ judged c = let a = c.args in
 
 pub returns-then-is_done : goal.returns-then-is_done
 returns-then-is_done c =
-    raster_done _ _ _ _ _ _ (judged (goal.at.returns-then-is_done c).After-refusal-a) (sym c.is_done.ensures ∙ c.if-is_done.true)
+    raster_done _ _ _ _ _ _ (judged (goal.at.returns-then-is_done c).After-refusal-a)
+    (sym c.is_done.ensures ∙ c.if-is_done.true)
 
 pub returns : goal.returns
 returns c =
-    raster_refused _ _ _ _ _ _ (judged (goal.at.returns c).After-refusal-a) _ (sym c.is_done.ensures ∙ c.if-is_done.false)
+    raster_refused _ _ _ _ _ _ (judged (goal.at.returns c).After-refusal-a) _
+    (sym c.is_done.ensures ∙ c.if-is_done.false)
     c.refused.ensures

@@ -26,18 +26,22 @@ pub copy_picture-requires : goal.copy_picture-requires
 copy_picture-requires c =
     let a = c.args in
     let g = c.judge_file-head.ensures in record {
-      holds = source_held a.depth a.file.now a.target.now _ _ g (done (goal.at.copy_picture-requires c).Then-is_done) _ (raster_is (goal.at.copy_picture-requires c).After-read_header-found);
-      holds_2 = target_held a.depth a.file.now a.target.now _ _ g (done (goal.at.copy_picture-requires c).Then-is_done);
+      holds = source_held a.depth a.file.now a.target.now _ _ g
+          (done (goal.at.copy_picture-requires c).Then-is_done) _
+          (raster_is (goal.at.copy_picture-requires c).After-read_header-found);
+      holds_2 = target_held a.depth a.file.now a.target.now _ _ g
+          (done (goal.at.copy_picture-requires c).Then-is_done);
     }
 
 pub returns-then-is_done : goal.returns-then-is_done
 returns-then-is_done c =
     let a = c.args in
-    let g = c.judge_file-head.ensures in (
-      g,
-      read_done a.depth a.file.now a.target.now _ _ g (done (goal.at.returns-then-is_done c).Then-is_done) refl _ _
-          (raster_is (goal.at.returns-then-is_done c).After-read_header-found) c.copy_picture.ensures,
-    )
+    let g = c.judge_file-head.ensures in record {
+      given_back = g;
+      target_after = read_done a.depth a.file.now a.target.now _ _ g
+          (done (goal.at.returns-then-is_done c).Then-is_done) refl _ _
+          (raster_is (goal.at.returns-then-is_done c).After-read_header-found) c.copy_picture.ensures;
+    }
 
 pub returns : goal.returns
 returns c =

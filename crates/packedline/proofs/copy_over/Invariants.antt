@@ -9,7 +9,8 @@ use Rattle.packedline.proofs.copy_over.Given as goal
 
 abbrev pub invariant-loop-i : goal.invariant-loop-i
 invariant-loop-i l =
-    (l.i ≤ length l.s) × (length l.b ≡ length l.initial.b) × (l.b ≡ laid l.at l.i (λ i. faced_byte l.over (get_or l.s i 0)) l.initial.b)
+    (l.i ≤ length l.s) × (length l.b ≡ length l.initial.b)
+    × (l.b ≡ laid l.at l.i (λ i. faced_byte l.over (get_or l.s i 0)) l.initial.b)
 
 abbrev pub decreases-loop-i : goal.decreases-loop-i
 decreases-loop-i l = length l.s - l.i

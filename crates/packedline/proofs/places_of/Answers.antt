@@ -24,7 +24,8 @@ end_cell-requires c =
     let f = q.ensures in
     let m = c.cell_count-wide in
     let r = run_facts c.args.word c.args.n q.result m.result c.requires.o_bound.1.0
-    c.if-n-eq1.false c.requires.o_bound.1.1 c.first_cell-c.ensures.0 c.first_cell-c.ensures.1.1.0 c.first_cell-c.ensures.1.1.1
+    c.if-n-eq1.false c.requires.o_bound.1.1 c.first_cell-c.ensures.0 c.first_cell-c.ensures.1.1.0
+    c.first_cell-c.ensures.1.1.1
     m.ensures.0 in
     (omega (arith, r.0, c.requires.o_bound.1.0), r.1.0)
 

@@ -1,5 +1,6 @@
 -- The cells of a row word, and places of windows in a padded row that make them up.
-use Rattle.std.specs.Prelude.{ℕ, ◌+◌, ◌-◌, ◌/◌, ◌^◌, ◌≤◌, ◌<◌, ◌≡◌, Bool, true, cond, List, eqb, leb, length, get_or}
+use Rattle.std.specs.Prelude.{ℕ, ◌+◌, ◌-◌, ◌/◌, ◌^◌, ◌≤◌, ◌<◌, ◌≡◌, Bool, true, cond, List, eqb, leb}
+use Rattle.std.specs.Prelude.{length, get_or}
 use Rattle.std.specs.Int.Count.{count_leading_zeros, ones}
 use Rattle.basics.specs.Bits.{on}
 

@@ -1,5 +1,6 @@
 -- The padded row: a packed row, as it is or turned over, between what counts beyond the frame.
-use Rattle.std.specs.Prelude.{ℕ, ◌+◌, ◌-◌, ◌/◌, ◌%◌, ◌^◌, Bool, cond, List, eqb, length, get_or, set, replicate}
+use Rattle.std.specs.Prelude.{ℕ, ◌+◌, ◌-◌, ◌/◌, ◌%◌, ◌^◌, Bool, cond, List, eqb, length, get_or, set}
+use Rattle.std.specs.Prelude.{replicate}
 use Rattle.std.specs.Int.Bits.{bit_or, bit_and}
 use Rattle.rows.specs.Steps.Fold.{start_by}
 use Rattle.blocks.specs.Steps.Laid.{laid}

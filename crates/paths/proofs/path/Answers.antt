@@ -5,7 +5,10 @@ use Rattle.paths.proofs.path.Goals as goal
 
 pub reach-b-requires : goal.reach-b-requires
 reach-b-requires c =
-    (c.requires.linked, between_in _ _ c.between-m.ensures c.requires.one_byte)
+    record {
+      linked = c.requires.linked;
+      in_bytes = between_in _ _ c.between-m.ensures c.requires.one_byte;
+    }
 
 pub holds-requires : goal.holds-requires
 holds-requires c =

@@ -12,8 +12,7 @@ returns-then-is_ignored c =
 
 pub returns-then-is_white : goal.returns-then-is_white
 unfolding part_after
-returns-then-is_white c =
-    (
+returns-then-is_white c = (
   c.after_white.ensures.0
       ∙ simp (
         sym c.is_ignored.ensures ∙ c.if-is_ignored.false,
@@ -24,25 +23,23 @@ returns-then-is_white c =
 
 pub returns-then-is_digit : goal.returns-then-is_digit
 unfolding part_after
-returns-then-is_digit c =
-    (
-      c.after_digit.ensures.0
-          ∙ simp (
-            sym c.is_ignored.ensures ∙ c.if-is_ignored.false,
-            sym c.is_white.ensures ∙ c.if-is_white.false,
-            sym c.is_digit.ensures ∙ c.if-is_digit.true,
-          ),
-      c.after_digit.ensures.1,
-    )
+returns-then-is_digit c = (
+  c.after_digit.ensures.0
+      ∙ simp (
+        sym c.is_ignored.ensures ∙ c.if-is_ignored.false,
+        sym c.is_white.ensures ∙ c.if-is_white.false,
+        sym c.is_digit.ensures ∙ c.if-is_digit.true,
+      ),
+  c.after_digit.ensures.1,
+)
 
 pub returns : goal.returns
 unfolding part_after
-returns c =
-    (
-      simp (
-        sym c.is_ignored.ensures ∙ c.if-is_ignored.false,
-        sym c.is_white.ensures ∙ c.if-is_white.false,
-        sym c.is_digit.ensures ∙ c.if-is_digit.false,
-      ),
-      omega arith,
-    )
+returns c = (
+  simp (
+    sym c.is_ignored.ensures ∙ c.if-is_ignored.false,
+    sym c.is_white.ensures ∙ c.if-is_white.false,
+    sym c.is_digit.ensures ∙ c.if-is_digit.false,
+  ),
+  omega arith,
+)

@@ -31,10 +31,14 @@ put_file-requires c =
 
 pub returns-then-is_done : goal.returns-then-is_done
 returns-then-is_done c =
-    write_done _ _ _ _ _ _ c.head_len-before.ensures _ (judged (goal.at.returns-then-is_done c).After-refusal-a) _ (done (goal.at.returns-then-is_done c).Then-is_done)
-    c.put_file.ensures
+    let p = write_done _ _ _ _ _ _ c.head_len-before.ensures _
+    (judged (goal.at.returns-then-is_done c).After-refusal-a) _
+    (done (goal.at.returns-then-is_done c).Then-is_done)
+    c.put_file.ensures in
+    record { result_value = p.0; target_after = p.1 }
 
 pub returns : goal.returns
 returns c =
-    write_refused _ _ _ _ _ _ c.head_len-before.ensures _ (judged (goal.at.returns c).After-refusal-a)
-    (sym c.is_done.ensures ∙ c.if-is_done.false)
+    let p = write_refused _ _ _ _ _ _ c.head_len-before.ensures _ (judged (goal.at.returns c).After-refusal-a)
+    (sym c.is_done.ensures ∙ c.if-is_done.false) in
+    record { result_value = p.0; target_after = p.1 }

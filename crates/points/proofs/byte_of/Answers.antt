@@ -9,24 +9,24 @@ use Rattle.points.proofs.byte_of.Goals as goal
 pub overflow_mul-result : goal.overflow_mul-result
 overflow_mul-result c =
     let a = c.args in record {
-  fits = omega (
-    arith,
-    byte_fits a.p.bin.0 c.row_bytes.result 0 (omega arith)
-        (omega (arith, c.row_bytes.ensures, row_few a.depth a.w c.requires))
-        (omega arith),
-  );
-}
+      fits = omega (
+        arith,
+        byte_fits a.p.bin.0 c.row_bytes.result 0 (omega arith)
+            (omega (arith, c.row_bytes.ensures, row_few a.depth a.w c.requires))
+            (omega arith),
+      );
+    }
 
 pub overflow_add-result : goal.overflow_add-result
 overflow_add-result c =
     let a = c.args in record {
-  fits =
-      byte_fits a.p.bin.0 c.row_bytes.result c.column_byte.result (omega arith) (omega (
-        arith,
-        c.row_bytes.ensures,
-        row_few a.depth a.w c.requires,
-      )) (omega (arith, c.column_byte.ensures, column_small a.depth a.p.ping.0));
-}
+      fits =
+          byte_fits a.p.bin.0 c.row_bytes.result c.column_byte.result (omega arith) (omega (
+            arith,
+            c.row_bytes.ensures,
+            row_few a.depth a.w c.requires,
+          )) (omega (arith, c.column_byte.ensures, column_small a.depth a.p.ping.0));
+    }
 
 pub returns : goal.returns
 returns c =

@@ -8,18 +8,18 @@ use Rattle.points.proofs.put.Goals as goal
 pub bounds-t-at : goal.bounds-t-at
 bounds-t-at c =
     let a = c.args in omega (
-  arith,
-  c.byte_of-at.ensures,
-  column_in a.depth a.p.ping.0 a.w c.requires.column,
-)
+      arith,
+      c.byte_of-at.ensures,
+      column_in a.depth a.p.ping.0 a.w c.requires.column,
+    )
 
 pub bounds-t-at-2 : goal.bounds-t-at-2
 bounds-t-at-2 c =
     let a = c.args in omega (
-  arith,
-  c.byte_of-at.ensures,
-  column_in a.depth a.p.ping.0 a.w c.requires.column,
-)
+      arith,
+      c.byte_of-at.ensures,
+      column_in a.depth a.p.ping.0 a.w c.requires.column,
+    )
 
 pub returns : goal.returns
 unfolding put_at

@@ -9,10 +9,10 @@ use Rattle.points.proofs.value.Goals as goal
 pub bounds-s-at : goal.bounds-s-at
 bounds-s-at c =
     let a = c.args in omega (
-  arith,
-  c.byte_of-at.ensures,
-  column_in a.depth a.p.ping.0 a.w c.requires.column,
-)
+      arith,
+      c.byte_of-at.ensures,
+      column_in a.depth a.p.ping.0 a.w c.requires.column,
+    )
 
 pub returns : goal.returns
 unfolding value_at

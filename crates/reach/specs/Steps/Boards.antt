@@ -1,6 +1,7 @@
 -- The board after all links of a chain. With origins that sum to ox and oy,
 -- the sums X and Y stand for the offset (X - ox, Y - oy). An offset has centre added to each coordinate.
-use Rattle.std.specs.Prelude.{ℕ, ◌+◌, ◌-◌, ◌≤◌, min, max, Bool, ◌&&◌, List, [], ◌∷◌, leb, ltb, get_or, replicate}
+use Rattle.std.specs.Prelude.{ℕ, ◌+◌, ◌-◌, ◌≤◌, min, max, Bool, ◌&&◌, List, [], ◌∷◌, leb, ltb, get_or}
+use Rattle.std.specs.Prelude.{replicate}
 use Rattle.answer.specs.Answer.{centre}
 use Rattle.basics.specs.Bits.{on}
 use Rattle.morphology.specs.Check.{back_x, back_y}

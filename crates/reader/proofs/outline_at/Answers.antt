@@ -22,7 +22,7 @@ pub returns : goal.returns
 unfolding element_of
 returns c =
     simp (
-  c.origin_of-origin.ensures,
-  c.size-h.ensures.0,
-  c.size-w.ensures.0,
-)
+      c.origin_of-origin.ensures,
+      c.size-h.ensures.0,
+      c.size-w.ensures.0,
+    )

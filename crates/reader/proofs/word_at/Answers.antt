@@ -20,11 +20,13 @@ pub loop-j-preserved : goal.loop-j-preserved
 loop-j-preserved c =
     let l = c.loop-j in (
       search rules,
-      digits_more 8 (byte c.before.before.before.before.before) (bytes (goal.at.loop-j-preserved c).After-shared_slice_known-1) 64 l.j
+      digits_more 8 (byte c.before.before.before.before.before)
+          (bytes (goal.at.loop-j-preserved c).After-shared_slice_known-1) 64 l.j
           l.v _ (omega arith) l.invariant.1 c.byte_or_none.ensures,
     )
 
 pub returns : goal.returns
 unfolding word_of
 returns c =
-    digits_done 8 _ (bytes (goal.at.returns c).After-shared_slice_known-1) c.loop-j.j _ _ c.loop-j.invariant.1 (omega arith)
+    digits_done 8 _ (bytes (goal.at.returns c).After-shared_slice_known-1) c.loop-j.j _ _
+    c.loop-j.invariant.1 (omega arith)

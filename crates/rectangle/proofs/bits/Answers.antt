@@ -21,11 +21,11 @@ fit c nt nb = fit_in true _ _ nt nb _ _ _ c.requires.ready c.requires.holds
 pub loop-y-init : goal.loop-y-init
 loop-y-init c =
     let a = c.args in (
-  omega arith,
-  refl,
-  refl,
-  written_none OneBit (boxed true a.grows a.s.now a.w a.h a.o) a.w a.t.now,
-)
+      omega arith,
+      refl,
+      refl,
+      written_none OneBit (boxed true a.grows a.s.now a.w a.h a.o) a.w a.t.now,
+    )
 
 pub overflow_add-y : goal.overflow_add-y
 overflow_add-y c = omega (arith, c.requires.ready.few_bins, c.loop-y.invariant.0)
@@ -49,7 +49,8 @@ pub lower-requires : goal.lower-requires
 lower-requires c =
     let u = c.upper in record {
       box_fit = fit_own true _ _ _ _ _ _
-          (fit (goal.at.lower-requires c).At-loop-y _ _ (u.auto.t ∙ c.loop-y.invariant.1) (u.auto.b ∙ c.loop-y.invariant.2));
+          (fit (goal.at.lower-requires c).At-loop-y _ _
+          (u.auto.t ∙ c.loop-y.invariant.1) (u.auto.b ∙ c.loop-y.invariant.2));
       z_lt_h = search rules;
     }
 
@@ -67,7 +68,8 @@ loop-y-preserved c =
       two_more true a.grows a.s.now a.w a.h a.o a.t.now (length c.loop-y.t)
           c.loop-y.y
           c.loop-y.t u.new.t w.new.t u.new.b _
-          (fit (goal.at.loop-y-preserved c).At-loop-y _ _ c.loop-y.invariant.1 (u.auto.b ∙ c.loop-y.invariant.2))
+          (fit (goal.at.loop-y-preserved c).At-loop-y _ _
+          c.loop-y.invariant.1 (u.auto.b ∙ c.loop-y.invariant.2))
           refl c.loop-y-test.true c.loop-y.invariant.3 u.ensures.rows refl w.ensures.row
           w.ensures.known,
     )
@@ -77,10 +79,11 @@ slice_bounds-upper-end-then-y-h c = sym c.loop-y.invariant.2
 
 pub upper-requires-then-y-h : goal.upper-requires-then-y-h
 upper-requires-then-y-h c =
-    (
-  fit (goal.at.upper-requires-then-y-h c).At-loop-y _ _ c.loop-y.invariant.1 c.loop-y.invariant.2,
-  (omega arith, (omega arith, search rules)),
-)
+    record {
+      box_fit = fit (goal.at.upper-requires-then-y-h c).At-loop-y _ _
+          c.loop-y.invariant.1 c.loop-y.invariant.2;
+      y_le_z = (omega arith, (omega arith, search rules));
+    }
 
 pub shape_of-t-then-y-h : goal.shape_of-t-then-y-h
 shape_of-t-then-y-h c =
@@ -91,7 +94,8 @@ pub returns-then-y-h : goal.returns-then-y-h
 returns-then-y-h c =
     let a = c.args in
     last_more true a.grows a.s.now a.w a.h a.o a.t.now _ _ _ c.loop-y.y c.loop-y.t _
-    (fit (goal.at.returns-then-y-h c).At-loop-y _ _ refl refl) c.loop-y.invariant.1 (omega arith) (omega arith) c.loop-y.invariant.3
+    (fit (goal.at.returns-then-y-h c).At-loop-y _ _ refl refl)
+    c.loop-y.invariant.1 (omega arith) (omega arith) c.loop-y.invariant.3
     c.upper-then-y-h.ensures.rows
 
 pub shape_of-t : goal.shape_of-t

@@ -2,7 +2,8 @@
 -- root. Two nodes are united by putting
 -- the lesser root under the greater. No definition to believe: proofs/Labels.antt says that the roots are the
 -- first nodes of the regions.
-use Rattle.std.specs.Prelude.{ℕ, zero, suc, ◌+◌, ◌-◌, ◌*◌, ◌/◌, ◌%◌, min, max, Bool, true, cond, List, ◌++◌, eqb, ltb, get_or, set, drop}
+use Rattle.std.specs.Prelude.{ℕ, zero, suc, ◌+◌, ◌-◌, ◌*◌, ◌/◌, ◌%◌, min, max, Bool, true, cond, List}
+use Rattle.std.specs.Prelude.{◌++◌, eqb, ltb, get_or, set, drop}
 use Rattle.basics.specs.Lists.{firsts}
 use Rattle.regions.specs.Regions.{point_of}
 

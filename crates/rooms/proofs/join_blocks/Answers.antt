@@ -26,7 +26,8 @@ loop-done-preserved c =
       p.auto.t ∙ l.invariant.1,
       blocks_more (at_all a.grows a.b.now a.at.now) a.t.now
           (all_again a.grows a.b.now a.at.now) l.t _ _ p.new.t l.done _
-          (omega (arith, least, l.invariant.1)) (omega (arith, least, l.invariant.1, l.invariant.0, c.requires.in_bounds))
+          (omega (arith, least, l.invariant.1))
+          (omega (arith, least, l.invariant.1, l.invariant.0, c.requires.in_bounds))
           (omega (arith, least, l.invariant.1, c.requires.in_bounds)) l.invariant.2
           c.block_at-c.ensures
           c.join_places-e.ensures p.ensures,

@@ -8,7 +8,8 @@ use Rattle.rooms.proofs.widen.Given as goal
 
 abbrev pub invariant-loop-k : goal.invariant-loop-k
 invariant-loop-k l =
-    (l.k ≤ l.n) × (length l.b ≡ length l.initial.b) × (l.b ≡ widened_to l.grows l.from l.to l.k l.d l.e l.f l.initial.b)
+    (l.k ≤ l.n) × (length l.b ≡ length l.initial.b)
+    × (l.b ≡ widened_to l.grows l.from l.to l.k l.d l.e l.f l.initial.b)
 
 abbrev pub decreases-loop-k : goal.decreases-loop-k
 decreases-loop-k l = l.n - l.k

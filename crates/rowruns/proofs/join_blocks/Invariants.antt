@@ -8,7 +8,8 @@ use Rattle.rowruns.proofs.join_blocks.Given as goal
 
 abbrev pub invariant-loop-c : goal.invariant-loop-c
 invariant-loop-c l =
-    (l.c ≤ l.n) × (length l.t ≡ length l.initial.t) × (l.t ≡ piece_of l.grows (start_of l.grows l.n 0 l.c) l.s l.c l.initial.t)
+    (l.c ≤ l.n) × (length l.t ≡ length l.initial.t)
+    × (l.t ≡ piece_of l.grows (start_of l.grows l.n 0 l.c) l.s l.c l.initial.t)
 
 abbrev pub decreases-loop-c : goal.decreases-loop-c
 decreases-loop-c l = l.n - l.c

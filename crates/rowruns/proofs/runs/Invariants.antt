@@ -8,7 +8,8 @@ use Rattle.rowruns.proofs.runs.Given as goal
 
 abbrev pub invariant-loop-a : goal.invariant-loop-a
 invariant-loop-a l =
-    (1 ≤ l.a) × (l.a ≤ l.k) × (length l.t ≡ length l.initial.t) × (l.t ≡ run_of l.grows l.n l.h l.initial.t l.a)
+    (1 ≤ l.a) × (l.a ≤ l.k) × (length l.t ≡ length l.initial.t)
+    × (l.t ≡ run_of l.grows l.n l.h l.initial.t l.a)
 
 abbrev pub decreases-loop-a : goal.decreases-loop-a
 decreases-loop-a l = l.k - l.a

@@ -9,7 +9,8 @@ use Rattle.rows.proofs.fill.Given as goal
 
 abbrev pub invariant-loop-i : goal.invariant-loop-i
 invariant-loop-i l =
-    (l.i ≤ length l.initial.t) × (length l.t ≡ length l.initial.t) × (l.t ≡ firsts (λ x. l.v) l.i ++ drop l.i l.initial.t)
+    (l.i ≤ length l.initial.t) × (length l.t ≡ length l.initial.t)
+    × (l.t ≡ firsts (λ x. l.v) l.i ++ drop l.i l.initial.t)
 
 abbrev pub decreases-loop-i : goal.decreases-loop-i
 decreases-loop-i l = length l.initial.t - l.i

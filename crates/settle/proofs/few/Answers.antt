@@ -20,11 +20,13 @@ pub loop-i-preserved : goal.loop-i-preserved
 loop-i-preserved c =
     let l = c.loop-i in (
       search rules,
-      digits_more 8 (byte c.before.before.before.before.before.before) (bytes (goal.at.loop-i-preserved c).After-shared_slice_known-1) 64 l.i
+      digits_more 8 (byte c.before.before.before.before.before.before)
+          (bytes (goal.at.loop-i-preserved c).After-shared_slice_known-1) 64 l.i
           l.v _ (omega arith) l.invariant.1 c.wide.ensures.0,
     )
 
 pub returns : goal.returns
 unfolding word_of
 returns c =
-    digits_done 8 _ (bytes (goal.at.returns c).After-shared_slice_known-1) c.loop-i.i _ _ c.loop-i.invariant.1 (omega arith)
+    digits_done 8 _ (bytes (goal.at.returns c).After-shared_slice_known-1) c.loop-i.i _ _
+    c.loop-i.invariant.1 (omega arith)

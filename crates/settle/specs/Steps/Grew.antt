@@ -1,7 +1,8 @@
 -- What one visit of a part of the target may do, whatever the order of the visits.
 -- There are h rows of n bytes, the last u bits of each spare;
 -- a point is a column x and a row y, and the padding counts as columns here.
-use Rattle.std.specs.Prelude.{ℕ, ◌+◌, ◌-◌, ◌*◌, ◌/◌, ◌%◌, ◌≤◌, ◌<◌, min, ◌≡◌, Bool, true, false, cond, List, ◌⊎◌, ltb, length, get_or}
+use Rattle.std.specs.Prelude.{ℕ, ◌+◌, ◌-◌, ◌*◌, ◌/◌, ◌%◌, ◌≤◌, ◌<◌, min, ◌≡◌, Bool, true, false, cond}
+use Rattle.std.specs.Prelude.{List, ◌⊎◌, ltb, length, get_or}
 use Rattle.basics.specs.Bits.{bit}
 use Rattle.basics.specs.Bytes.{Bytes}
 

@@ -23,7 +23,8 @@ sides v before after k =
 
 -- the word of k bytes from byte j on, so spread along its row
 unfoldable pub across_of : List ℕ → ℕ → ℕ → ℕ → ℕ → ℕ
-across_of l at n j k = sides (word_of l (at + j) k) (byte_before l at j % 2) (byte_from l at n (j + k) / 2 ^ 7) k
+across_of l at n j k =
+    sides (word_of l (at + j) k) (byte_before l at j % 2) (byte_from l at n (j + k) / 2 ^ 7) k
 
 -- what a row above or below gives: aslant too with the square
 unfoldable pub spread_of : Bool → List ℕ → ℕ → ℕ → ℕ → ℕ → ℕ

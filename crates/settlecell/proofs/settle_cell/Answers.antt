@@ -24,15 +24,17 @@ pub returns-then-m-was : goal.returns-then-m-was
 unfolding cell_word
 returns-then-m-was c =
     let a = c.args in
-    full_stays a.c a.mask.now a.t.now _ _ c.mask_word-m.ensures c.word-was.ensures
-    (omega arith) (omega arith) c.if-m-was.true
+    let p = full_stays a.c a.mask.now a.t.now _ _ c.mask_word-m.ensures c.word-was.ensures
+    (omega arith) (omega arith) c.if-m-was.true in
+    record { changed = p.0; bytes = p.1 }
 
 pub returns-then-v-was : goal.returns-then-v-was
 unfolding cell_word
 returns-then-v-was c =
     let a = c.args in
-    stays a.c a.mask.now a.t.now _ _ _ c.flood-v.result
-    c.mask_word-m.ensures c.around-o.ensures c.word-was.ensures c.flood-v.ensures c.if-v-was.true
+    let p = stays a.c a.mask.now a.t.now _ _ _ c.flood-v.result
+    c.mask_word-m.ensures c.around-o.ensures c.word-was.ensures c.flood-v.ensures c.if-v-was.true in
+    record { changed = p.0; bytes = p.1 }
 
 pub slice_bounds-put_word-end : goal.slice_bounds-put_word-end
 slice_bounds-put_word-end c = omega (arith, row_room c.args.c.n c.requires.fits_2.in_bins)
@@ -41,6 +43,7 @@ pub returns : goal.returns
 unfolding cell_word
 returns c =
     let a = c.args in
-    changes a.c a.mask.now a.t.now _ _ _ c.flood-v.result
+    let p = changes a.c a.mask.now a.t.now _ _ _ c.flood-v.result
     c.mask_word-m.ensures c.around-o.ensures c.word-was.ensures c.flood-v.ensures
-    c.put_word.new.t c.if-v-was.false c.put_word.ensures
+    c.put_word.new.t c.if-v-was.false c.put_word.ensures in
+    record { changed = p.0; bytes = p.1 }

@@ -1,12 +1,14 @@
 -- How the loops move bytes, and what the functions inside ask of their callers: none of these is to be
 -- believed.
-use Rattle.std.specs.Prelude.{ℕ, zero, suc, ◌+◌, ◌*◌, ◌≤◌, ◌<◌, ◌≡◌, true, List, ◌++◌, length, get_or, set, take, drop}
+use Rattle.std.specs.Prelude.{ℕ, zero, suc, ◌+◌, ◌*◌, ◌≤◌, ◌<◌, ◌≡◌, true, List, ◌++◌, length, get_or}
+use Rattle.std.specs.Prelude.{set, take, drop}
 use Rattle.share.specs.Share.{sum_to, length_at, share_made}
 
 -- i bytes moved down, the first first
 unfoldable pub slide_down : ℕ → ℕ → ℕ → List ℕ → List ℕ
 slide_down from to zero s = s
-slide_down from to (suc i) s = set (slide_down from to i s) (to + i) (get_or (slide_down from to i s) (from + i) 0)
+slide_down from to (suc i) s =
+    set (slide_down from to i s) (to + i) (get_or (slide_down from to i s) (from + i) 0)
 
 -- i bytes moved up, the last first
 unfoldable pub slide_up : ℕ → ℕ → ℕ → List ℕ → List ℕ

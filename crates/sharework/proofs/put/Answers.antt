@@ -19,11 +19,11 @@ replace-requires c =
 
 pub returns-then-is_done : goal.returns-then-is_done
 returns-then-is_done c =
-    let a = c.args in (
-      c.put_refusal-no.ensures,
-      put_worked a.numbers a.room a.s.now a.n a.d.now _ _
-          c.put_refusal-no.ensures (done (goal.at.returns-then-is_done c).Then-is_done) c.replace.ensures,
-    )
+    let a = c.args in record {
+      answer = c.put_refusal-no.ensures;
+      bytes = put_worked a.numbers a.room a.s.now a.n a.d.now _ _
+          c.put_refusal-no.ensures (done (goal.at.returns-then-is_done c).Then-is_done) c.replace.ensures;
+    }
 
 pub returns : goal.returns
 returns c =

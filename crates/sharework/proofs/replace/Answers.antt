@@ -19,14 +19,16 @@ overflow_sub-all c =
 pub slide-requires : goal.slide-requires
 slide-requires c =
     let a = c.args in
-    let h = moves_fit a.numbers a.n a.s.now a.d.now c.requires (byte (goal.at.slide-requires c).After-total-2) _ _ _
+    let h = moves_fit a.numbers a.n a.s.now a.d.now c.requires
+    (byte (goal.at.slide-requires c).After-total-2) _ _ _
     c.total.ensures.0 c.length_at.ensures.0 c.total-2.ensures.0 in
     (omega (arith, h.0), omega (arith, h.1))
 
 pub copy_in-requires : goal.copy_in-requires
 copy_in-requires c =
     let a = c.args in
-    let h = moves_fit a.numbers a.n a.s.now a.d.now c.requires (byte (goal.at.copy_in-requires c).After-total-2) _ _ _
+    let h = moves_fit a.numbers a.n a.s.now a.d.now c.requires
+    (byte (goal.at.copy_in-requires c).After-total-2) _ _ _
     c.total.ensures.0 c.length_at.ensures.0 c.total-2.ensures.0 in
     let k = c.slide.auto.s in
     omega (arith, h.1)

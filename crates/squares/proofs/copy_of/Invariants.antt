@@ -9,7 +9,8 @@ use Rattle.squares.proofs.copy_of.Given as goal
 
 abbrev pub invariant-loop-i : goal.invariant-loop-i
 invariant-loop-i l =
-    (l.i ≤ length l.t) × (length l.c ≡ 128) × (l.c ≡ firsts (λ i. get_or l.t i 0) l.i ++ replicate (128 - l.i) 0)
+    (l.i ≤ length l.t) × (length l.c ≡ 128)
+    × (l.c ≡ firsts (λ i. get_or l.t i 0) l.i ++ replicate (128 - l.i) 0)
 
 abbrev pub decreases-loop-i : goal.decreases-loop-i
 decreases-loop-i l = length l.t - l.i

@@ -1,6 +1,6 @@
 -- Invariant: v bits are set in the first i bytes.
 -- What falls: the bytes left.
-use Prim.Native.Nat.{◌-◌, ◌*◌, ◌≤◌}
+use Prim.Native.Nat.{◌+◌, ◌-◌, ◌*◌, ◌≤◌}
 use mathlib.Core.Path.{◌≡◌}
 use lib.Count.{ones}
 use lib.ListN.{length, get_or}

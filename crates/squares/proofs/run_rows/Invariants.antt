@@ -15,7 +15,9 @@ use Rattle.squares.proofs.run_rows.Given as goal
 abbrev pub invariant-loop-y : goal.invariant-loop-y
 invariant-loop-y l =
     (l.y ≤ l.h) × (length l.t ≡ length l.initial.t)
-    × (l.t ≡ rows_written OneBit (swept_by l.grows flat 1 (frame l.w l.h) (rect l.k 1) (value_at OneBit l.initial.t l.w)) l.w l.initial.t l.y)
+    × (l.t ≡ rows_written OneBit
+    (swept_by l.grows flat 1 (frame l.w l.h) (rect l.k 1) (value_at OneBit l.initial.t l.w)) l.w
+    l.initial.t l.y)
 
 abbrev pub decreases-loop-y : goal.decreases-loop-y
 decreases-loop-y l = l.h - l.y

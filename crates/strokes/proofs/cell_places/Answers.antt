@@ -16,8 +16,7 @@ overflow_sub-rest c = omega (arith, c.cell_bit-b.ensures, c.first_cell-c.ensures
 
 pub spot-requires : goal.spot-requires
 spot-requires c =
-    let a = c.args in
-    (
+    let a = c.args in (
       place_some a.grows a.o _ _ c.requires.0 c.first_cell-c.ensures.0
           c.cell_place-p.ensures.0,
       c.cell_place-p.ensures.1,

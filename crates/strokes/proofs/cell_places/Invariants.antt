@@ -9,7 +9,8 @@ use Rattle.strokes.proofs.cell_places.Given as goal
 abbrev pub invariant-loop-m : goal.invariant-loop-m
 invariant-loop-m l =
     So l.grows l.word l.o l.m l.count l.at
-    × (cells_from l.grows l.o 64 l.word 0 l.initial.at ≡ cells_from l.grows l.o (64 - l.count) l.m l.count l.at)
+    × (cells_from l.grows l.o 64 l.word 0 l.initial.at
+    ≡ cells_from l.grows l.o (64 - l.count) l.m l.count l.at)
 
 abbrev pub decreases-loop-m : goal.decreases-loop-m
 decreases-loop-m l = l.m

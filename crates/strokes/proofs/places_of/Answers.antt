@@ -14,11 +14,11 @@ pub returns-then-n-le1 : goal.returns-then-n-le1
 returns-then-n-le1 c =
     let a = c.args in
     let r = c.cell_places in
-    let h = c.if-n-le1.true in (
-      subst (λ k. Strokes a.grows a.word a.o k r.result r.new.at) (kind_cells a.n h)
-          r.ensures.cover,
-      r.ensures.found ∙ sym (from_cells a.grows a.word a.o a.n a.at.now h),
-    )
+    let h = c.if-n-le1.true in record {
+      cover = subst (λ k. Strokes a.grows a.word a.o k r.result r.new.at) (kind_cells a.n h)
+          r.ensures.cover;
+      found = r.ensures.found ∙ sym (from_cells a.grows a.word a.o a.n a.at.now h);
+    }
 
 pub first_cell-c-requires : goal.first_cell-c-requires
 first_cell-c-requires c = some_cell c.args.word c.args.n (omega arith) c.requires.o_bound.1
@@ -29,7 +29,8 @@ end_cell-requires c =
     let f = q.ensures in
     let m = c.cell_count-wide in
     let r = run_facts c.args.word c.args.n q.result m.result (omega arith)
-    (λ e. omega (arith, e)) c.requires.o_bound.1 c.first_cell-c.ensures.0 c.first_cell-c.ensures.1.1.0 c.first_cell-c.ensures.1.1.1 m.ensures.0 in
+    (λ e. omega (arith, e)) c.requires.o_bound.1 c.first_cell-c.ensures.0 c.first_cell-c.ensures.1.1.0
+    c.first_cell-c.ensures.1.1.1 m.ensures.0 in
     (omega (arith, r.0), r.1.0)
 
 pub run_places-requires : goal.run_places-requires
@@ -38,7 +39,8 @@ run_places-requires c =
     let f = q.ensures in
     let m = c.cell_count-wide in
     let r = run_facts c.args.word c.args.n q.result m.result (omega arith)
-    (λ e. omega (arith, e)) c.requires.o_bound.1 c.first_cell-c.ensures.0 c.first_cell-c.ensures.1.1.0 c.first_cell-c.ensures.1.1.1 m.ensures.0 in
+    (λ e. omega (arith, e)) c.requires.o_bound.1 c.first_cell-c.ensures.0 c.first_cell-c.ensures.1.1.0
+    c.first_cell-c.ensures.1.1.1 m.ensures.0 in
     let p = c.cell_place-p.ensures.1 in
     let k = c.base_of.ensures.1 in
     record {
@@ -54,7 +56,8 @@ returns c =
     let m = c.cell_count-wide in
     let some : 1 < a.n = omega arith in
     let r = run_facts a.word a.n q.result m.result (omega arith)
-    (λ e. omega (arith, e)) c.requires.o_bound.1 c.first_cell-c.ensures.0 c.first_cell-c.ensures.1.1.0 c.first_cell-c.ensures.1.1.1 m.ensures.0 in
+    (λ e. omega (arith, e)) c.requires.o_bound.1 c.first_cell-c.ensures.0 c.first_cell-c.ensures.1.1.0
+    c.first_cell-c.ensures.1.1.1 m.ensures.0 in
     let p = c.run_places in
     let base = c.base_of in
     let place = c.cell_place-p.ensures.0

@@ -16,7 +16,8 @@ unfoldable pub cells_from : Bool → ℕ → ℕ → ℕ → ℕ → List ℕ �
 cells_from grows o zero m count at = (count, at)
 cells_from grows o (suc n) m count at =
     cond (eqb m 0) (count, at)
-    (cells_from grows o n (m - 2 ^ (63 - count_leading_zeros 64 m) - mate_of m (count_leading_zeros 64 m)) (count + 1)
+    (cells_from grows o n (m - 2 ^ (63 - count_leading_zeros 64 m) - mate_of m (count_leading_zeros 64 m))
+    (count + 1)
     (set at count (spot_at grows o m (count_leading_zeros 64 m))))
 
 -- at most k + 1 more windows of n, for the places of the run from c on

@@ -1,5 +1,6 @@
 -- Places in two rooms of windows that make up the cells of a row word.
-use Rattle.std.specs.Prelude.{ℕ, ◌+◌, ◌-◌, ◌≤◌, ◌<◌, ◌≡◌, Bool, true, cond, not, List, ◌⊎◌, eqb, leb, ltb, length, get_or}
+use Rattle.std.specs.Prelude.{ℕ, ◌+◌, ◌-◌, ◌≤◌, ◌<◌, ◌≡◌, Bool, true, cond, not, List, ◌⊎◌, eqb, leb, ltb}
+use Rattle.std.specs.Prelude.{length, get_or}
 use Rattle.basics.specs.Tests.{all}
 use Rattle.element.specs.declared.Outline.{Outline}
 use Rattle.packedline.specs.Steps.Cells.{cell_on64, place_of, level_of}

@@ -12,7 +12,8 @@ abbrev pub invariant-loop-i : goal.invariant-loop-i
 invariant-loop-i l =
     (l.i ≤ 64) × (length l.c ≡ 64) × (length l.initial.c ≡ 64)
     × (l.c ≡ laid 0 l.i
-    (λ i. join_by l.grows (get_or l.initial.c i 0) (lift_by l.grows l.rises l.g (get_or l.b (l.at + i) 0))) l.initial.c)
+    (λ i. join_by l.grows (get_or l.initial.c i 0) (lift_by l.grows l.rises l.g (get_or l.b (l.at + i) 0)))
+    l.initial.c)
 
 abbrev pub decreases-loop-i : goal.decreases-loop-i
 decreases-loop-i l = 64 - l.i

@@ -9,7 +9,8 @@ use Rattle.weighing.proofs.join_row.Given as goal
 
 abbrev pub invariant-loop-i : goal.invariant-loop-i
 invariant-loop-i l =
-    (l.i ≤ length l.by) × (length l.t ≡ length l.initial.t) × (l.t ≡ zip_in (join_by l.grows) l.initial.t (take l.i l.by))
+    (l.i ≤ length l.by) × (length l.t ≡ length l.initial.t)
+    × (l.t ≡ zip_in (join_by l.grows) l.initial.t (take l.i l.by))
 
 abbrev pub decreases-loop-i : goal.decreases-loop-i
 decreases-loop-i l = length l.by - l.i

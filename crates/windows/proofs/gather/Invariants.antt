@@ -10,7 +10,8 @@ use Rattle.windows.proofs.gather.Given as goal
 
 abbrev pub invariant-loop-k : goal.invariant-loop-k
 invariant-loop-k l =
-    (l.k ≤ l.n) × (length l.b ≡ length l.initial.b) × (l.b ≡ widened_by (gathered_at l.grows l.at) l.k l.initial.b)
+    (l.k ≤ l.n) × (length l.b ≡ length l.initial.b)
+    × (l.b ≡ widened_by (gathered_at l.grows l.at) l.k l.initial.b)
 
 abbrev pub decreases-loop-k : goal.decreases-loop-k
 decreases-loop-k l = l.n - l.k

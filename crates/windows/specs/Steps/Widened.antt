@@ -7,12 +7,14 @@ use Rattle.blocks.specs.Steps.Points.{eight_from}
 -- eight windows of 4 points, from those of byte i on; and eight of 16, where the points are windows of 4
 unfoldable pub widen1_at : Bool → List ℕ → ℕ → ℕ
 widen1_at grows l i =
-    join_packed grows (join_packed grows (join_packed grows (get_or l i 0) (eight_from l i 1)) (eight_from l i 2))
+    join_packed grows (join_packed grows (join_packed grows (get_or l i 0) (eight_from l i 1))
+    (eight_from l i 2))
     (eight_from l i 3)
 
 unfoldable pub widen4_at : Bool → List ℕ → ℕ → ℕ
 widen4_at grows l i =
-    join_packed grows (join_packed grows (join_packed grows (get_or l i 0) (eight_from l i 4)) (get_or l (i + 1) 0))
+    join_packed grows (join_packed grows (join_packed grows (get_or l i 0) (eight_from l i 4))
+    (get_or l (i + 1) 0))
     (eight_from l (i + 1) 4)
 
 -- in the first n blocks, each byte by what W makes of the list from there on

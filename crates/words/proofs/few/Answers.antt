@@ -9,16 +9,14 @@ use mathlib.Core.Path.{◌≡◌, ap, ◌∙◌}
 use Rattle.words.proofs.few.Goals as goal
 
 pub loop-i-init : goal.loop-i-init
-loop-i-init c =
-    (
+loop-i-init c = (
   search rules,
   digits_none 8 _ (λ i. let f = c.type_inv.s (c.args.at + i) in omega arith),
 )
 
 pub loop-i-preserved : goal.loop-i-preserved
 loop-i-preserved c =
-    let l = c.loop-i in
-    (
+    let l = c.loop-i in (
       search rules,
       c.more-v.ensures
           ∙ digits_more 8 _ (λ i. let f = c.type_inv.s (c.args.at + i) in

@@ -11,9 +11,9 @@ returns-then-c-ge64 c = next_past c.args.word c.args.c c.requires c.if-c-ge64.tr
 pub returns-then-m-eq0 : goal.returns-then-m-eq0
 returns-then-m-eq0 c =
     next_none c.args.word c.args.c _ (omega (
-  arith,
-  c.if-c-ge64.false,
-)) refl c.if-m-eq0.true
+      arith,
+      c.if-c-ge64.false,
+    )) refl c.if-m-eq0.true
 
 pub returns : goal.returns
 returns c =

@@ -9,11 +9,11 @@ use Rattle.words.proofs.put_points.Goals as goal
 pub returns-then-end-from-eq8 : goal.returns-then-end-from-eq8
 returns-then-end-from-eq8 c =
     let a = c.args in
-    let r = c.cut-r.ensures in (
-      c.lay_eight.ensures
-          ∙ ap₂ (λ n v. laid a.from n (byte_of v) a.t.now) (sym c.if-end-from-eq8.true) r.0,
-      r.1,
-    )
+    let r = c.cut-r.ensures in record {
+      bytes = c.lay_eight.ensures
+          ∙ ap₂ (λ n v. laid a.from n (byte_of v) a.t.now) (sym c.if-end-from-eq8.true) r.0;
+      known = r.1;
+    }
 
 pub returns : goal.returns
 returns c =

@@ -1,5 +1,6 @@
 -- Words of 64 points: the first is the highest digit.
-use Rattle.std.specs.Prelude.{ℕ, ◌+◌, ◌-◌, ◌*◌, ◌/◌, ◌%◌, ◌^◌, ◌≤◌, ◌<◌, ◌≡◌, Bool, true, false, cond, List, ltb, get_or}
+use Rattle.std.specs.Prelude.{ℕ, ◌+◌, ◌-◌, ◌*◌, ◌/◌, ◌%◌, ◌^◌, ◌≤◌, ◌<◌, ◌≡◌, Bool, true, false, cond}
+use Rattle.std.specs.Prelude.{List, ltb, get_or}
 use Rattle.std.specs.Int.Bits.{bit_or, bit_and}
 use Rattle.basics.specs.Bits.{bit, digits}
 use Rattle.packedline.specs.Steps.Cells.{cell_on64, run_word}
