@@ -4,7 +4,7 @@
 # make uninstall   takes all of it away again
 # make board       the library for a board's processor, TARGET=aarch64, held by the comparison: docs/BOARD.md
 # make pictures    docs/pictures anew, by qik and Netpbm
-# make clean       removes what make made; the proofs stay
+# make clean       removes what make made; the proofs stay, in crates/*/out
 PREFIX = /usr/local
 DESTDIR =
 TARGET = aarch64
@@ -14,13 +14,13 @@ CFLAGS = -O2
 INSTALL = install
 
 made := target/make
-proved := crates.txt $(shell find crates -type f ! -path '*/must-fail/*')
+proved := crates.txt $(shell find crates/*/src crates/*/specs crates/*/proofs -type f)
 version := $(shell sed -n 's/^\#define QIK_VERSION "\(.*\)"/\1/p' include/qiksavlut.h)
 to = $(DESTDIR)$(PREFIX)
 
 all: $(made)/libqiksavlut.a $(PROGRAMS:%=$(made)/%)
 
-$(made)/libqiksavlut.a: $(proved) host/native-archive host/compile host/modules
+$(made)/libqiksavlut.a: $(proved) host/native-archive host/archive tools/prover
 	@mkdir -p $(made)
 	host/native-archive $@
 
@@ -28,7 +28,7 @@ $(made)/qik: host/qik.c $(wildcard host/qik-*.c host/qik-*.h) include/qiksavlut.
 	$(CC) -std=c99 $(CFLAGS) -Wall -Wextra -Wpedantic -Iinclude $(LDFLAGS) -o $@ $(filter %.c,$^) $(made)/libqiksavlut.a
 
 # after the archive: one proof at a time
-$(made)/echtext: $(proved) host/native-program host/compile host/modules | $(made)/libqiksavlut.a
+$(made)/echtext: $(proved) host/native-program | $(made)/libqiksavlut.a
 	@mkdir -p $(made)
 	host/native-program echtext $@
 
@@ -55,6 +55,6 @@ pictures: $(made)/qik
 	tools/pictures
 
 clean:
-	rm -rf $(made) target/board
+	rm -rf target
 
 .PHONY: all check install uninstall board pictures clean
