@@ -73,7 +73,8 @@ module _ (d : List ℕ) (m : cells_made d ≡ true) where
   -- ---- a flat operation, and a weighted one by the heights in the descriptor's own bytes
   module _ (b : Bytes d) (top : ℕ) (F : Frame) (A : Picture) (x y : ℕ) where
     pub flat_read : (grows : Bool)
-        → swept_by grows flat top F (shape_of (element_of d)) A x y ≡ swept_by grows flat top F (shape_in d) A x y
+        → swept_by grows flat top F (shape_of (element_of d)) A x y
+        ≡ swept_by grows flat top F (shape_in d) A x y
     unfolding shape_of shape_in element_of
     flat_read true =
         dilate_cells (shape_of (element_of d)) (shape_in d).has

@@ -5,7 +5,7 @@
 
 use answer::Answer;
 use book::Party;
-use libc::STDIN_FILENO;
+use std::io;
 
 fn party_of(who: usize) -> Party {
     if who == 1 {
@@ -14,11 +14,11 @@ fn party_of(who: usize) -> Party {
     Party::Display
 }
 
-fn got(book: &[u8], party: Party, n: usize) {
+fn got(rt: &impl Print, book: &[u8], party: Party, n: usize) -> io::Result<()> {
     let found = book::find(book, party, n);
     let said: Answer = found.answer;
-    show::answered(said);
-    show::buffer(b"got", book::get(book, party, n));
+    show::answered(rt, said)?;
+    show::buffer(rt, b"got", book::get(book, party, n))
 }
 
 // Byte n becomes the first of the element's: a book that is damaged.
@@ -31,67 +31,97 @@ fn damaged(book: &mut [u8], n: usize, element: &[u8]) {
 }
 
 // One call, by its number in the line.
-fn call(party: Party, what: usize, book: &mut [u8], n: usize, element: &[u8]) {
+fn call(
+    rt: &impl Print,
+    party: Party,
+    what: usize,
+    book: &mut [u8],
+    n: usize,
+    element: &[u8],
+) -> io::Result<()> {
     match what {
-        1 => show::answered(book::start(book)),
-        2 => show::answered(book::put(book, party, n, element)),
-        3 => show::answered(book::remove(book, party, n)),
-        4 => show::answered(book::tidy(book, party)),
-        5 => got(&book[..], party, n),
-        _ => damaged(book, n, element),
+        1 => show::answered(rt, book::start(book)),
+        2 => show::answered(rt, book::put(book, party, n, element)),
+        3 => show::answered(rt, book::remove(book, party, n)),
+        4 => show::answered(rt, book::tidy(book, party)),
+        5 => got(rt, &book[..], party, n),
+        _ => {
+            damaged(book, n, element);
+            Ok(())
+        }
     }
 }
 
 // A call of a line, and where the next one is.
-fn one(line: &[u8], at: usize, book: &mut [u8]) -> usize {
+fn one(rt: &impl Print, line: &[u8], at: usize, book: &mut [u8]) -> io::Result<usize> {
     let who = numbers::number_at(line, at);
     let what = numbers::number_at(line, who.next);
     let n = numbers::number_at(line, what.next);
-    let mut element = io::buffer();
+    let mut element = lines::buffer();
     let e = lines::buffer_at(line, n.next, &mut element);
     let party = party_of(who.value);
-    call(party, what.value, book, n.value, &element[..e.value]);
-    e.next
+    call(
+        rt,
+        party,
+        what.value,
+        book,
+        n.value,
+        &element[..e.value],
+    )?;
+    Ok(e.next)
 }
 
-fn each_call(line: &[u8], at: usize, calls: usize, book: &mut [u8]) {
+fn each_call(
+    rt: &impl Print,
+    line: &[u8],
+    at: usize,
+    calls: usize,
+    book: &mut [u8],
+) -> io::Result<()> {
     let mut next = at;
     let mut i = 0;
     while i < calls {
-        next = one(line, next, book);
+        next = one(rt, line, next, book)?;
         i += 1;
     }
+    Ok(())
 }
 
 // The calls, and what came of them.
-fn run(line: &[u8], at: usize, calls: usize, book: &mut [u8]) {
-    each_call(line, at, calls, book);
-    show::buffer(b"book", book);
+fn run(
+    rt: &impl Print,
+    line: &[u8],
+    at: usize,
+    calls: usize,
+    book: &mut [u8],
+) -> io::Result<()> {
+    each_call(rt, line, at, calls, book)?;
+    show::buffer(rt, b"book", book)
 }
 
 // A label, or a history and the buffer that it lends.
-fn history(letter: u8, line: &[u8]) {
+fn history(rt: &impl Print, letter: u8, line: &[u8]) -> io::Result<()> {
     if letter == b'#' {
-        show::text(line);
-        return;
+        return show::text(rt, line);
     }
     let head = lines::head_of(letter, line);
-    let mut book = io::buffer();
+    let mut book = lines::buffer();
     let b = lines::buffer_at(line, head.next, &mut book);
-    run(line, b.next, head.links, &mut book[..b.value]);
+    run(rt, line, b.next, head.links, &mut book[..b.value])
 }
 
-fn each_line(input: &[u8]) {
+fn each_line(rt: &impl Print, input: &[u8]) -> io::Result<()> {
     let mut at = 0;
     while at < input.len() {
         let end = numbers::line_end(input, at);
-        history(input[at], &input[at..end]);
+        history(rt, input[at], &input[at..end])?;
         at = end;
     }
+    Ok(())
 }
 
-fn main() {
-    let mut input = io::large_buffer();
-    let n = io::read_full(STDIN_FILENO, &mut input);
-    each_line(&input[..n]);
+fn main(rt: HostRuntime) -> io::Result<()> {
+    let mut input = lines::large_buffer();
+    let n = lines::read_full(&mut rt.reader(), &mut input)?;
+    each_line(&rt, &input[..n])
 }

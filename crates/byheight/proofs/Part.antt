@@ -220,7 +220,8 @@ module _ (grows : Bool) (s : List ℕ) (w h : ℕ) (o : Outline) (words hs : Lis
       -- what the row of the element finds at column x
       found : (x c : ℕ) → x < w
           → within w x (plus_by grows o.origin.ping.0 c) (minus_by grows o.origin.ping.0 c) ≡ true
-          → get_or row (across_to grows o x c) 0 ≡ get_or s (down_to grows o y n * w + across_to grows o x c) 0
+          → get_or row (across_to grows o x c) 0
+          ≡ get_or s (down_to grows o y n * w + across_to grows o x c) 0
       found x c l t =
           is_row (across_to grows o x c)
           (ltb-true (across_to grows o x c) w

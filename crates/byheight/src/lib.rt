@@ -4,7 +4,8 @@
 // The target's own rows gather them, in any order.
 #![tactic(auto)]
 
-ghost use Rattle.std.specs.Prelude.{◌≡◌, true, ◌+◌, ◌*◌, ◌/◌, ◌≤◌, ◌<◌, length, get_or, replicate, take, drop};
+ghost use Rattle.std.specs.Prelude.{◌≡◌, true, ◌+◌, ◌*◌, ◌/◌, ◌≤◌, ◌<◌, length, get_or, replicate, take};
+ghost use Rattle.std.specs.Prelude.{drop};
 ghost use Rattle.element.specs.Descriptor.{most_cells};
 ghost use Rattle.picture.specs.Frame.{most_pings, Holds};
 ghost use Rattle.picture.specs.Bytes.{written, bytes_of};

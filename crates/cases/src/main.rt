@@ -8,9 +8,9 @@ ghost use Rattle.std.specs.Prelude.{◌≡◌, length};
 
 use answer::Answer;
 use judge::Padding;
-use libc::STDIN_FILENO;
 use lines::Head;
 use picture::{Depth, Face};
+use std::io;
 
 // As much as the largest picture of 8 bits, and two bytes more.
 fn room() -> [u8; 262146]
@@ -97,41 +97,52 @@ fn call(
 
 // The call, and what came of it.
 fn run(
+    rt: &impl Print,
     head: Head,
     target: &mut [u8],
     scratch: &mut [u8],
     source: &[u8],
     element: &[u8],
     other: &[u8],
-) {
-    show::answered(call(head, target, scratch, source, element, other));
-    show::buffer(b"target", target);
-    show::buffer(b"scratch", scratch);
+) -> io::Result<()> {
+    show::answered(
+        rt,
+        call(head, target, scratch, source, element, other),
+    )?;
+    show::buffer(rt, b"target", target)?;
+    show::buffer(rt, b"scratch", scratch)
 }
 
 // What a call is given, and the call.
-fn given(head: Head, line: &[u8], at: usize, target: &mut [u8], scratch: &mut [u8]) {
+fn given(
+    rt: &impl Print,
+    head: Head,
+    line: &[u8],
+    at: usize,
+    target: &mut [u8],
+    scratch: &mut [u8],
+) -> io::Result<()> {
     let mut source = room();
-    let mut element = io::large_buffer();
-    let mut other = io::buffer();
+    let mut element = lines::large_buffer();
+    let mut other = lines::buffer();
     let s = lines::buffer_at(line, at, &mut source);
     let e = lines::buffer_at(line, s.next, &mut element);
     let o = lines::buffer_at(line, e.next, &mut other);
     run(
+        rt,
         head,
         target,
         scratch,
         &source[..s.value],
         &element[..e.value],
         &other[..o.value],
-    );
+    )
 }
 
 // A label, or a job and the buffers that it lends.
-fn job(letter: u8, line: &[u8]) {
+fn job(rt: &impl Print, letter: u8, line: &[u8]) -> io::Result<()> {
     if letter == b'#' {
-        show::text(line);
-        return;
+        return show::text(rt, line);
     }
     let head = lines::head_of(letter, line);
     let mut target = room();
@@ -139,25 +150,27 @@ fn job(letter: u8, line: &[u8]) {
     let t = lines::buffer_at(line, head.next, &mut target);
     let u = lines::buffer_at(line, t.next, &mut scratch);
     given(
+        rt,
         head,
         line,
         u.next,
         &mut target[..t.value],
         &mut scratch[..u.value],
-    );
+    )
 }
 
-fn each_line(input: &[u8]) {
+fn each_line(rt: &impl Print, input: &[u8]) -> io::Result<()> {
     let mut at = 0;
     while at < input.len() {
         let end = numbers::line_end(input, at);
-        job(input[at], &input[at..end]);
+        job(rt, input[at], &input[at..end])?;
         at = end;
     }
+    Ok(())
 }
 
-fn main() {
+fn main(rt: HostRuntime) -> io::Result<()> {
     let mut input = room();
-    let n = io::read_full(STDIN_FILENO, &mut input);
-    each_line(&input[..n]);
+    let n = lines::read_full(&mut rt.reader(), &mut input)?;
+    each_line(&rt, &input[..n])
 }

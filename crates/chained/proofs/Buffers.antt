@@ -217,18 +217,21 @@ module _ (grows : Bool) (depth : Depth) (w h : ℕ) (source : List ℕ)
         → u ≡ written depth (result (i + 1)) w h t
     unfolding applied_to made_by
     first_made t u z e =
-        e ∙ ap (λ j. written depth (by_link grows depth w h (get_or all i empty_link) (result j)) w h t) (sym z)
+        e
+        ∙ ap (λ j. written depth (by_link grows depth w h (get_or all i empty_link) (result j)) w h t) (sym z)
         ∙ ap (λ (A : Picture). written depth A w h t) next
 
     next_made : (s s₀ t u : List ℕ) → s ≡ written depth (result i) w h s₀
-        → u ≡ applied_to grows depth w h (get_or all i empty_link) s t → u ≡ written depth (result (i + 1)) w h t
+        → u ≡ applied_to grows depth w h (get_or all i empty_link) s t
+        → u ≡ written depth (result (i + 1)) w h t
     unfolding applied_to
     next_made s s₀ t u es e =
         from_written depth w h (link_shape (get_or all i empty_link)) (result i) s s₀ t u
         (λ bit. made_small depth w h source all bit grows i) es grows flat e
         ∙ ap (λ (A : Picture). written depth A w h t) next
 
-    pub after_more : (u v : List ℕ) → u ≡ first_by grows depth w h i (get_or all i empty_link) source first second
+    pub after_more : (u v : List ℕ)
+        → u ≡ first_by grows depth w h i (get_or all i empty_link) source first second
         → v ≡ second_by grows depth w h i (get_or all i empty_link) first second
         → length u ≡ length first → length v ≡ length second
         → After grows depth w h source all first₀ second₀ u v (i + 1)

@@ -76,7 +76,8 @@ pub link_small : (k i : ℕ) (d : List ℕ) → i < k → refuse (link_tests k d
 unfolding link_tests rest_after
 link_small zero i d l e = absurd (not-suc-le-zero l)
 link_small (suc k) zero d l e =
-    leb-true _ _ (both (leb (wide_of (first_of d)) most_link_cells) (leb (high_of (first_of d)) most_link_cells)
+    leb-true _ _ (both (leb (wide_of (first_of d)) most_link_cells)
+    (leb (high_of (first_of d)) most_link_cells)
     (passed_here (well_made (first_of d))
     (small (wide_of (first_of d)) (high_of (first_of d))) (link_tests k (rest_of d)) e).1.0).1
 link_small (suc k) (suc i) d l e =
@@ -163,7 +164,8 @@ module _ (d : List ℕ) (m : cells_made d ≡ true) (few : high_of d ≤ most_li
         → swept_by grows flat top F (link_shape (link_of (element_of d))) A x y
         ≡ swept_by grows flat top F (shape_in d) A x y
     unfolding shape_of shape_in element_of link_by
-    link_read true = dilate_cells (link_shape (link_of (element_of d))) (shape_in d).has cell_held F A x y flat
+    link_read true =
+        dilate_cells (link_shape (link_of (element_of d))) (shape_in d).has cell_held F A x y flat
     link_read false =
         erode_cells (link_shape (link_of (element_of d))) (shape_in d).has cell_held F A x y flat top
 

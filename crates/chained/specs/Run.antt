@@ -22,7 +22,8 @@ run_answer depth w h source element k chain room =
 
 -- the results, by their number: each of the first i links in order, all as erosion or all as dilation
 unfoldable pub eroded : Depth → ℕ → ℕ → List ℕ → List ℕ → ℕ → Picture
-eroded depth w h source chain i = erode_all (top depth) (frame w h) (links_in i chain) (value_at depth source w)
+eroded depth w h source chain i =
+    erode_all (top depth) (frame w h) (links_in i chain) (value_at depth source w)
 
 unfoldable pub dilated : Depth → ℕ → ℕ → List ℕ → List ℕ → ℕ → Picture
 dilated depth w h source chain i = dilate_all (frame w h) (links_in i chain) (value_at depth source w)

@@ -4,28 +4,29 @@
 #![tactic(auto)]
 
 use answer::Answer;
-use libc::{STDIN_FILENO, STDOUT_FILENO};
 use lines::Head;
 use picture::Depth;
+use std::io;
 
 // The check of a chain, and what it answers.
-fn checked(line: &[u8], at: usize, k: usize) {
-    let mut element = io::buffer();
-    let mut chain = io::buffer();
+fn checked(rt: &impl Print, line: &[u8], at: usize, k: usize) -> io::Result<()> {
+    let mut element = lines::buffer();
+    let mut chain = lines::buffer();
     let e = lines::buffer_at(line, at, &mut element);
     let c = lines::buffer_at(line, e.next, &mut chain);
     let a: Answer = chain::check_chain(&element[..e.value], k, &chain[..c.value]);
-    show::answered(a);
+    show::answered(rt, a)
 }
 
 // The last picture of a run, in two buffers.
-fn found(head: Head, line: &[u8]) {
+fn found(rt: &impl Print, head: Head, line: &[u8]) -> io::Result<()> {
     let depth: Depth = head.depth;
-    let mut first = io::buffer();
-    let mut second = io::buffer();
+    let mut first = lines::buffer();
+    let mut second = lines::buffer();
     let a = lines::buffer_at(line, head.next, &mut first);
     let b = lines::buffer_at(line, a.next, &mut second);
     show::buffer(
+        rt,
         b"last",
         finder::last_picture(
             &first[..a.value],
@@ -35,65 +36,63 @@ fn found(head: Head, line: &[u8]) {
             head.h,
             head.links,
         ),
-    );
+    )
 }
 
-fn flag(name: &[u8], n: usize) {
-    show::text(name);
-    io::print_decimal(STDOUT_FILENO, n as u64);
-    show::text(b"\n");
+fn flag(rt: &impl Print, name: &[u8], n: usize) -> io::Result<()> {
+    show::text(rt, name)?;
+    rt.print(n)?;
+    show::text(rt, b"\n")
 }
 
 // The search for a chain: what it answers, its links, its bytes, whether it gave up, and the lent buffer.
-fn search(element: &[u8], chain: &mut [u8]) {
+fn search(rt: &impl Print, element: &[u8], chain: &mut [u8]) -> io::Result<()> {
     let found = chainfor::find_chain(element, chain);
     let said: Answer = found.answer;
-    show::answered(said);
-    flag(b"links ", found.links);
-    flag(b"bytes ", found.bytes);
+    show::answered(rt, said)?;
+    flag(rt, b"links ", found.links)?;
+    flag(rt, b"bytes ", found.bytes)?;
     if found.gave_up {
-        show::text(b"gave up\n");
+        show::text(rt, b"gave up\n")?;
     }
-    show::buffer(b"chain", &chain[..]);
+    show::buffer(rt, b"chain", &chain[..])
 }
 
-fn searched(line: &[u8], at: usize) {
-    let mut element = io::buffer();
-    let mut chain = io::buffer();
+fn searched(rt: &impl Print, line: &[u8], at: usize) -> io::Result<()> {
+    let mut element = lines::buffer();
+    let mut chain = lines::buffer();
     let e = lines::buffer_at(line, at, &mut element);
     let c = lines::buffer_at(line, e.next, &mut chain);
-    search(&element[..e.value], &mut chain[..c.value]);
+    search(rt, &element[..e.value], &mut chain[..c.value])
 }
 
 // A label, or a job.
-fn job(letter: u8, line: &[u8]) {
+fn job(rt: &impl Print, letter: u8, line: &[u8]) -> io::Result<()> {
     if letter == b'#' {
-        show::text(line);
-        return;
+        return show::text(rt, line);
     }
     let head = lines::head_of(letter, line);
     if letter == b'f' {
-        found(head, line);
-        return;
+        return found(rt, head, line);
     }
     if letter == b'c' {
-        searched(line, head.next);
-        return;
+        return searched(rt, line, head.next);
     }
-    checked(line, head.next, head.links);
+    checked(rt, line, head.next, head.links)
 }
 
-fn each_line(input: &[u8]) {
+fn each_line(rt: &impl Print, input: &[u8]) -> io::Result<()> {
     let mut at = 0;
     while at < input.len() {
         let end = numbers::line_end(input, at);
-        job(input[at], &input[at..end]);
+        job(rt, input[at], &input[at..end])?;
         at = end;
     }
+    Ok(())
 }
 
-fn main() {
-    let mut input = io::large_buffer();
-    let n = io::read_full(STDIN_FILENO, &mut input);
-    each_line(&input[..n]);
+fn main(rt: HostRuntime) -> io::Result<()> {
+    let mut input = lines::large_buffer();
+    let n = lines::read_full(&mut rt.reader(), &mut input)?;
+    each_line(&rt, &input[..n])
 }

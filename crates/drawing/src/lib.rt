@@ -46,7 +46,8 @@ fn put_item(depth: Depth, t: &mut [u8], at: usize, v: u8, x: Ping) -> usize
 
 // The points of row y.
 fn put_items(depth: Depth, t: &mut [u8], at: usize, s: &[u8], w: usize, y: Bin) -> usize
-    requires w_le_most_pings { (w ≤ most_pings) × (y.0 * row_bytes depth w + row_bytes depth w ≤ length s.now) }
+    requires w_le_most_pings { (w ≤ most_pings)
+        × (y.0 * row_bytes depth w + row_bytes depth w ≤ length s.now) }
     requires w_in_bounds { at + length (joined (point_item depth (value_at depth s.now w) y.0) w)
         ≤ length t.old }
     ensures value { result
@@ -75,7 +76,8 @@ fn put_items(depth: Depth, t: &mut [u8], at: usize, s: &[u8], w: usize, y: Bin) 
 
 // Row y, as a line.
 fn put_line(depth: Depth, t: &mut [u8], at: usize, s: &[u8], w: usize, y: Bin) -> usize
-    requires w_le_most_pings { (w ≤ most_pings) × (y.0 * row_bytes depth w + row_bytes depth w ≤ length s.now) }
+    requires w_le_most_pings { (w ≤ most_pings)
+        × (y.0 * row_bytes depth w + row_bytes depth w ≤ length s.now) }
     requires y_in_bounds { at + length (line_of depth (value_at depth s.now w) w y.0) ≤ length t.old }
     ensures value { result ≡ at + length (line_of depth (value_at depth s.now w) w y.0) }
     ensures t_after { t.new

@@ -4,7 +4,7 @@
 ghost use Rattle.std.specs.Prelude.{◌≡◌};
 ghost use Rattle.answer.specs.Answer.{told, plain};
 
-use libc::{STDIN_FILENO, STDOUT_FILENO};
+use std::io;
 use work::Outcome;
 
 // One byte more than a job may have, so that a longer one is seen.
@@ -18,13 +18,13 @@ fn printed(done: Outcome) -> usize
     done.printed
 }
 
-fn main() {
+fn main(rt: HostRuntime) -> io::Result<()> {
     let mut input = [0u8; INPUT];
     let mut picture = [0u8; job::MOST_JOB];
     let mut result = [0u8; job::MOST_JOB];
     let mut scratch = [0u8; job::MOST_JOB];
     let mut text = [0u8; job::TEXT_ROOM];
-    let n = io::read_full(STDIN_FILENO, &mut input);
+    let n = lines::read_full(&mut rt.reader(), &mut input)?;
     let done = job::run_job(
         &input[..n],
         &mut picture,
@@ -33,5 +33,5 @@ fn main() {
         &mut text,
     );
     let k = printed(done);
-    io::write_all(STDOUT_FILENO, &text[..k]);
+    rt.write_all(&text[..k])
 }

@@ -31,7 +31,8 @@ swap : (i p m : ℕ) → i + p + m ≡ i + m + p
 swap i p m = omega arith
 
 -- ---- a block: the first place as it stands, and what all of them make
-module _ (grows : Bool) (s at c : List ℕ) (i p : ℕ) (ep : p ≡ get_or at 0 0) (ec : c ≡ block_of s (i + p)) where
+module _ (grows : Bool) (s at c : List ℕ) (i p : ℕ) (ep : p ≡ get_or at 0 0)
+    (ec : c ≡ block_of s (i + p)) where
   first_at : (m : ℕ) → m < 64 → get_or c m 0 ≡ get_or s (i + m + get_or at 0 0) 0
   unfolding block_of
   first_at m h =
@@ -72,7 +73,8 @@ module _ (f : ℕ → ℕ) (from : ℕ) (t : List ℕ) where
     last : (i : ℕ) → n ≤ i + 64 → i < n → get_or v (from + i) 0 ≡ f i
     last i h k =
         ap₂ (λ l p. get_or l p 0) ev (there from i n h k)
-        ∙ get_in (from + (n - 64)) 64 (λ j. get_or c j 0) u (i - (n - 64)) (omega (arith, u_long)) (omega arith)
+        ∙ get_in (from + (n - 64)) 64 (λ j. get_or c j 0) u (i - (n - 64)) (omega (arith, u_long))
+        (omega arith)
         ∙ ap (λ l. get_or l (i - (n - 64)) 0) ec
         ∙ get_d_firsts (λ m. f (n - 64 + m)) 64 (i - (n - 64)) (omega arith)
         ∙ ap f (back i n h k)

@@ -5,8 +5,8 @@
 
 use answer::Answer;
 use grown::Neighbours;
-use libc::STDIN_FILENO;
 use lines::Head;
+use std::io;
 
 fn neighbours_of(letter: u8) -> Neighbours {
     match letter {
@@ -16,45 +16,57 @@ fn neighbours_of(letter: u8) -> Neighbours {
 }
 
 // The call, and what came of it.
-fn run(head: Head, target: &mut [u8], marker: &[u8], mask: &[u8]) {
+fn run(
+    rt: &impl Print,
+    head: Head,
+    target: &mut [u8],
+    marker: &[u8],
+    mask: &[u8],
+) -> io::Result<()> {
     let by = neighbours_of(head.letter);
     let a: Answer = reconstruct::reconstruct(by, head.w, head.h, marker, mask, target);
-    show::answered(a);
-    show::buffer(b"target", target);
+    show::answered(rt, a)?;
+    show::buffer(rt, b"target", target)
 }
 
 // What a call is given, and the call.
-fn given(head: Head, line: &[u8], at: usize, target: &mut [u8]) {
-    let mut marker = io::large_buffer();
-    let mut mask = io::large_buffer();
+fn given(
+    rt: &impl Print,
+    head: Head,
+    line: &[u8],
+    at: usize,
+    target: &mut [u8],
+) -> io::Result<()> {
+    let mut marker = lines::large_buffer();
+    let mut mask = lines::large_buffer();
     let m = lines::buffer_at(line, at, &mut marker);
     let k = lines::buffer_at(line, m.next, &mut mask);
-    run(head, target, &marker[..m.value], &mask[..k.value]);
+    run(rt, head, target, &marker[..m.value], &mask[..k.value])
 }
 
 // A label, or a job and the buffer that it lends.
-fn job(letter: u8, line: &[u8]) {
+fn job(rt: &impl Print, letter: u8, line: &[u8]) -> io::Result<()> {
     if letter == b'#' {
-        show::text(line);
-        return;
+        return show::text(rt, line);
     }
     let head = lines::head_of(letter, line);
-    let mut target = io::large_buffer();
+    let mut target = lines::large_buffer();
     let t = lines::buffer_at(line, head.next, &mut target);
-    given(head, line, t.next, &mut target[..t.value]);
+    given(rt, head, line, t.next, &mut target[..t.value])
 }
 
-fn each_line(input: &[u8]) {
+fn each_line(rt: &impl Print, input: &[u8]) -> io::Result<()> {
     let mut at = 0;
     while at < input.len() {
         let end = numbers::line_end(input, at);
-        job(input[at], &input[at..end]);
+        job(rt, input[at], &input[at..end])?;
         at = end;
     }
+    Ok(())
 }
 
-fn main() {
-    let mut input = io::large_buffer();
-    let n = io::read_full(STDIN_FILENO, &mut input);
-    each_line(&input[..n]);
+fn main(rt: HostRuntime) -> io::Result<()> {
+    let mut input = lines::large_buffer();
+    let n = lines::read_full(&mut rt.reader(), &mut input)?;
+    each_line(&rt, &input[..n])
 }

@@ -46,7 +46,8 @@ few_regions R w h n len = by (is_done (nest_answer R w h n len)) refl
         omega (arith, ltb-false most_regions (regions_of R (h * w)) p.1.1.1.0)
     by false e = lit< tt
 
-pub nest_apart_lem : (R : ℕ → ℕ) (w h n len : ℕ) → nest_apart (nest_number R w h n len) ≡ nest_told R w h n len
+pub nest_apart_lem : (R : ℕ → ℕ) (w h n len : ℕ)
+    → nest_apart (nest_number R w h n len) ≡ nest_told R w h n len
 unfolding nest_number nest_told
 nest_apart_lem R w h n len =
     let ts = nest_tests R w h n len in

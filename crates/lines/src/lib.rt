@@ -2,13 +2,17 @@
 // tools/cases makes the lines, and says what their letters and numbers mean.
 #![tactic(auto)]
 
-ghost use Rattle.std.specs.Prelude.{◌≡◌, length};
+ghost use Rattle.std.specs.Prelude.{◌≡◌, length, IfOk};
 ghost use Rattle.io.specs.Counts.{IsPrefixLen};
 ghost use Rattle.lines.specs.Buffers.{last_with, buffer_at, filled_at};
 ghost use Rattle.lines.specs.Heads.{depth_of, head_of};
 
 use numbers::Found;
 use picture::Depth;
+use std::io::Read;
+
+// The room that lines and their buffers are read into.
+pub use io::{buffer, large_buffer};
 
 // A job as its line begins, and where its buffers are.
 #[derive(Clone, Copy)]
@@ -19,6 +23,21 @@ pub struct Head {
     pub h: usize,
     pub links: usize,
     pub next: usize,
+}
+
+// The input to its end, as far as there is room for it: how many bytes it has put at the start of b.
+pub fn read_full(input: &mut impl Read, b: &mut [u8]) -> std::io::Result<usize>
+    ensures { IfOk result (λ n. IsPrefixLen n b.new) }
+{
+    let mut done = 0;
+    while done < b.len() {
+        let n = input.read(&mut b[done..])?;
+        if n == 0 {
+            break;
+        }
+        done += n;
+    }
+    Ok(done)
 }
 
 // The number that byte i of a buffer is: the next of the line, or past the first m the last one again.
@@ -39,6 +58,7 @@ pub fn buffer_at(line: &[u8], at: usize, b: &mut [u8]) -> Found
 {
     let n = numbers::number_at(line, at);
     let m = numbers::number_at(line, n.next);
+    let count = m.value;
     let k = basics::lesser(n.value, b.len());
     let mut last = Found {
         value: 0,
@@ -46,7 +66,7 @@ pub fn buffer_at(line: &[u8], at: usize, b: &mut [u8]) -> Found
     };
     let mut i = 0;
     while i < k {
-        last = last_with(line, m.value, i, last);
+        last = last_with(line, count, i, last);
         b[i] = (last.value % 0x100) as u8;
         i += 1;
     }

@@ -6,19 +6,19 @@
 ghost use Rattle.std.specs.Prelude.{◌<◌, length};
 
 use answer::Answer;
-use libc::{STDIN_FILENO, STDOUT_FILENO};
+use std::io;
 
-fn number(n: usize) {
-    io::print_decimal(STDOUT_FILENO, n as u64);
+fn number(rt: &impl Print, n: usize) -> io::Result<()> {
+    rt.print(n)
 }
 
-fn like_numbers(n: usize, v: u32) {
-    show::text(b" ");
+fn like_numbers(rt: &impl Print, n: usize, v: u32) -> io::Result<()> {
+    show::text(rt, b" ")?;
     if 1 < n {
-        number(n);
-        show::text(b"*");
+        number(rt, n)?;
+        show::text(rt, b"*")?;
     }
-    number(v as usize);
+    number(rt, v as usize)
 }
 
 // The numbers that are like the one at `from` end before i.
@@ -32,87 +32,124 @@ fn ends(list: &[u32], from: usize, i: usize) -> bool
 }
 
 // A list: n*v is n numbers v.
-fn numbers(list: &[u32]) {
-    show::text(b"list");
+fn numbers(rt: &impl Print, list: &[u32]) -> io::Result<()> {
+    show::text(rt, b"list")?;
     let mut from = 0;
     let mut i = 0;
     while i < list.len() {
         i += 1;
         if ends(list, from, i) {
-            like_numbers(i - from, list[from]);
+            like_numbers(rt, i - from, list[from])?;
             from = i;
         }
     }
-    show::text(b"\n");
+    show::text(rt, b"\n")
 }
 
 // The call, and what came of it.
-fn run(w: usize, h: usize, source: &[u8], list: &mut [u32]) {
+fn run(
+    rt: &impl Print,
+    w: usize,
+    h: usize,
+    source: &[u8],
+    list: &mut [u32],
+) -> io::Result<()> {
     let nested = nesting::nest(w, h, source, list);
     let said: Answer = nested.answer;
-    show::answered(said);
-    show::text(b"regions ");
-    number(nested.regions as usize);
-    show::text(b"\n");
-    numbers(&list[..]);
+    show::answered(rt, said)?;
+    show::text(rt, b"regions ")?;
+    number(rt, nested.regions as usize)?;
+    show::text(rt, b"\n")?;
+    numbers(rt, &list[..])
 }
 
 // The part of the list that is lent.
-fn lend(w: usize, h: usize, source: &[u8], list: &mut [u32], n: usize) {
+fn lend(
+    rt: &impl Print,
+    w: usize,
+    h: usize,
+    source: &[u8],
+    list: &mut [u32],
+    n: usize,
+) -> io::Result<()> {
     if n <= list.len() {
-        run(w, h, source, &mut list[..n]);
+        return run(rt, w, h, source, &mut list[..n]);
     }
+    Ok(())
 }
 
 // The call of the size spectrum, and what came of it.
-fn run_sizes(w: usize, h: usize, source: &[u8], counts: &mut [u32], scratch: &mut [u8]) {
+fn run_sizes(
+    rt: &impl Print,
+    w: usize,
+    h: usize,
+    source: &[u8],
+    counts: &mut [u32],
+    scratch: &mut [u8],
+) -> io::Result<()> {
     let said: Answer = spectrum::spectrum(w, h, source, counts, scratch);
-    show::answered(said);
-    numbers(&counts[..]);
-    show::buffer(b"scratch", &scratch[..]);
+    show::answered(rt, said)?;
+    numbers(rt, &counts[..])?;
+    show::buffer(rt, b"scratch", &scratch[..])
 }
 
-fn lend_counts(w: usize, h: usize, source: &[u8], list: &mut [u32], n: usize, scratch: &mut [u8]) {
+fn lend_counts(
+    rt: &impl Print,
+    w: usize,
+    h: usize,
+    source: &[u8],
+    list: &mut [u32],
+    n: usize,
+    scratch: &mut [u8],
+) -> io::Result<()> {
     if n <= list.len() {
-        run_sizes(w, h, source, &mut list[..n], scratch);
+        return run_sizes(rt, w, h, source, &mut list[..n], scratch);
     }
+    Ok(())
 }
 
-fn sizes_job(w: usize, h: usize, source: &[u8], n: usize, line: &[u8], at: usize) {
-    let mut scratch = io::large_buffer();
+fn sizes_job(
+    rt: &impl Print,
+    w: usize,
+    h: usize,
+    source: &[u8],
+    n: usize,
+    line: &[u8],
+    at: usize,
+) -> io::Result<()> {
+    let mut scratch = lines::large_buffer();
     let s = lines::buffer_at(line, at, &mut scratch);
     let mut list = [7u32; 520];
-    lend_counts(w, h, source, &mut list, n, &mut scratch[..s.value]);
+    lend_counts(rt, w, h, source, &mut list, n, &mut scratch[..s.value])
 }
 
 // A label, or a job and the list that it lends, full of sevens.
-fn job(letter: u8, line: &[u8]) {
+fn job(rt: &impl Print, letter: u8, line: &[u8]) -> io::Result<()> {
     if letter == b'#' {
-        show::text(line);
-        return;
+        return show::text(rt, line);
     }
     let head = lines::head_of(letter, line);
-    let mut source = io::large_buffer();
+    let mut source = lines::large_buffer();
     let s = lines::buffer_at(line, head.next, &mut source);
     if letter == b's' {
-        sizes_job(head.w, head.h, &source[..s.value], head.links, line, s.next);
-        return;
+        return sizes_job(rt, head.w, head.h, &source[..s.value], head.links, line, s.next);
     }
     let mut list = [7u32; 520];
-    lend(head.w, head.h, &source[..s.value], &mut list, head.links);
+    lend(rt, head.w, head.h, &source[..s.value], &mut list, head.links)
 }
 
-fn each_line(input: &[u8]) {
+fn each_line(rt: &impl Print, input: &[u8]) -> io::Result<()> {
     let mut at = 0;
     while at < input.len() {
         let end = numbers::line_end(input, at);
-        job(input[at], &input[at..end]);
+        job(rt, input[at], &input[at..end])?;
         at = end;
     }
+    Ok(())
 }
 
-fn main() {
-    let mut input = io::large_buffer();
-    let n = io::read_full(STDIN_FILENO, &mut input);
-    each_line(&input[..n]);
+fn main(rt: HostRuntime) -> io::Result<()> {
+    let mut input = lines::large_buffer();
+    let n = lines::read_full(&mut rt.reader(), &mut input)?;
+    each_line(&rt, &input[..n])
 }

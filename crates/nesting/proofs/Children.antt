@@ -29,7 +29,8 @@ module _ (L I : List ℕ) (w n : ℕ) (r d : ℕ) where
   pub lines_twice : (k : ℕ) → length (lines k) ≡ 2 * length (orders k)
   lines_twice k =
       length_joined_twice (child (line R n) R w n I r d) (child itself R w n I r d) k
-      (λ i _. by (eqb (parent_of R w (get_or I i 0)) r) _ _ (length_lines R w n (n + 1) (get_or I i 0) (d + 1)))
+      (λ i _. by (eqb (parent_of R w (get_or I i 0)) r) _ _
+      (length_lines R w n (n + 1) (get_or I i 0) (d + 1)))
     where
       by : (t : Bool) (X Y : List ℕ) → length X ≡ 2 * length Y
           → length (cond t X []) ≡ 2 * length (cond t Y [])

@@ -15,7 +15,8 @@ use Rattle.nesting.specs.declared.Nested.{Nested}
 -- SIZE, SOURCE, and NEST for a picture of too many points
 abbrev pub frame_tests : ℕ → ℕ → ℕ → List Test
 frame_tests w h n =
-    (not (sized_frame w h), 1) ∷ (not (eqb n (picture_bytes OneBit w h)), 2) ∷ (ltb most_points (h * w), 16) ∷ []
+    (not (sized_frame w h), 1) ∷ (not (eqb n (picture_bytes OneBit w h)), 2) ∷ (ltb most_points (h * w), 16)
+    ∷ []
 
 -- NEST for more than 255 regions, then ROOM: two places of the list for each
 abbrev pub region_tests : ℕ → ℕ → List Test

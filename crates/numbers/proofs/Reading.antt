@@ -1,5 +1,7 @@
 -- A number and a line's end, by one byte more.
-use Rattle.std.proofs.Common.{◌≡◌, ℕ, ◌+◌, ◌<◌, ◌≤◌, cond, eqb, ltb, List, ◌∷◌, length, get_or, drop, sym, ap, ◌∙◌, add-one, drop_of_length-le, drop-cons, le-ltb, lt-ltb, eq-eqb, ne_eqb}
+use Rattle.std.proofs.Common.{◌≡◌, ℕ, ◌+◌, ◌<◌, ◌≤◌, cond, eqb, ltb, List, ◌∷◌, length, get_or, drop, sym}
+use Rattle.std.proofs.Common.{ap, ◌∙◌, add-one, drop_of_length-le, drop-cons, le-ltb, lt-ltb, eq-eqb}
+use Rattle.std.proofs.Common.{ne_eqb}
 use Rattle.numbers.specs.declared.Found.{Found}
 use Rattle.numbers.specs.Numbers.{more, number_in, end_in}
 

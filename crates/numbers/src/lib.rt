@@ -4,6 +4,12 @@
 ghost use Rattle.std.specs.Prelude.{◌≡◌, ◌<◌, ◌≤◌, length};
 ghost use Rattle.numbers.specs.Numbers.{more, number_at, line_end};
 
+// The least byte that is read as a digit: those below it end a number.
+const FIRST_DIGIT: u8 = b'0';
+
+// The byte that ends a line.
+const LINE_FEED: u8 = b'\n';
+
 // A number of a line, and where the next one is.
 #[derive(Clone, Copy)]
 pub struct Found {
@@ -27,7 +33,7 @@ pub fn number_at(line: &[u8], at: usize) -> Found
     while i < line.len() {
         let b = line[i];
         i += 1;
-        if b < b'0' {
+        if b < FIRST_DIGIT {
             return Found { value: v, next: i };
         }
         v = with_digit(v, b);
@@ -45,7 +51,7 @@ pub fn line_end(input: &[u8], at: usize) -> usize
     while i < input.len() {
         let b = input[i];
         i += 1;
-        if b == b'\n' {
+        if b == LINE_FEED {
             return i;
         }
     }

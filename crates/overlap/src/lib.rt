@@ -70,8 +70,10 @@ fn line_shared(
 
 // Some offset is one of both elements.
 pub fn offset_shared(first: Outline, words: &[RowWord], second: Outline, others: &[RowWord]) -> bool
-    requires w_le_most_cells { (first.w ≤ most_cells) × ((first.h ≤ most_cells) × (first.h ≤ length words.now)) }
-    requires w_le_most_cells_2 { (second.w ≤ most_cells) × ((second.h ≤ most_cells) × (second.h ≤ length others.now)) }
+    requires w_le_most_cells { (first.w ≤ most_cells)
+        × ((first.h ≤ most_cells) × (first.h ≤ length words.now)) }
+    requires w_le_most_cells_2 { (second.w ≤ most_cells)
+        × ((second.h ≤ most_cells) × (second.h ≤ length others.now)) }
     ensures { result
         ≡ shared (shape_by first words.now) (shape_by second others.now) }
 {

@@ -126,7 +126,8 @@ pub fn cell_bit(c: usize) -> u64
 pub fn first_cell(word: u64) -> usize
     requires { 0 < word }
     ensures { (result < 64)
-        × ((2 ^ (63 - result) ≤ word) × ((word < 2 ^ (64 - result)) × (result ≡ count_leading_zeros 64 word))) }
+        × ((2 ^ (63 - result) ≤ word) × ((word < 2 ^ (64 - result))
+        × (result ≡ count_leading_zeros 64 word))) }
 {
     u64::leading_zeros(word) as usize
 }

@@ -49,7 +49,8 @@ module _ (n h : ℕ) (l t : List ℕ) (bl : Bytes l) (bt : Bytes t) (long : leng
       digit : (j b : ℕ) → b < 8 → 7 - (8 * j + (7 - b)) % 8 ≡ b
       digit j b k = omega arith
 
-      at : (l : List ℕ) (b : ℕ) → b < 8 → point_in l (y * n) (8 * j + (7 - b)) ≡ bit (get_or l (y * n + j) 0) b
+      at : (l : List ℕ) (b : ℕ) → b < 8 → point_in l (y * n) (8 * j + (7 - b))
+          ≡ bit (get_or l (y * n + j) 0) b
       at l b k = λ i. bit (get_or l (y * n + place j b k i) 0) (digit j b k i)
 
   pub same_points : 1 ≤ n → l ≡ t
@@ -72,7 +73,8 @@ module _ (A : Picture) (w h : ℕ) (small : (x y : ℕ) → x < w → y < h → 
   unfolding written
   written_long =
       length-append (bytes_of OneBit A w h) (drop (picture_bytes OneBit w h) t)
-      ∙ ap₂ (λ a b. a + b) (bytes_long OneBit A w h) (length-drop (picture_bytes OneBit w h) t) ∙ back _ _ room
+      ∙ ap₂ (λ a b. a + b) (bytes_long OneBit A w h) (length-drop (picture_bytes OneBit w h) t)
+      ∙ back _ _ room
     where
       back : (a b : ℕ) → a ≤ b → a + (b - a) ≡ b
       back a b k = omega arith
@@ -81,7 +83,8 @@ module _ (A : Picture) (w h : ℕ) (small : (x y : ℕ) → x < w → y < h → 
   unfolding written
   written_rest i k =
       ap (λ m. get_or (written OneBit A w h t) m 0) (home _ _ i (bytes_long OneBit A w h) k)
-      ∙ get_or-append-add (bytes_of OneBit A w h) (drop (picture_bytes OneBit w h) t) (i - picture_bytes OneBit w
+      ∙ get_or-append-add (bytes_of OneBit A w h) (drop (picture_bytes OneBit w h) t)
+      (i - picture_bytes OneBit w
       h) 0
       ∙ get_or-drop (picture_bytes OneBit w h) t (i - picture_bytes OneBit w h) 0
       ∙ ap (λ m. get_or t m 0) (again _ i k)
@@ -221,7 +224,8 @@ module _ (neighbours : Neighbours) (w h : ℕ) (some : 1 ≤ w) (marker mask : L
 
     sound_point : (x y : ℕ) → x < w → y < h → point_in t₂ (y * n) x ≤ result x y
     sound_point x y hx hy =
-        subst (λ b. point_in t₂ (y * n) x ≤ cond b (result x y) 0) (lt-ltb x w hx) (above x y (omega arith) hy)
+        subst (λ b. point_in t₂ (y * n) x ≤ cond b (result x y) 0) (lt-ltb x w hx)
+        (above x y (omega arith) hy)
 
     growing : Growing neighbours F M K (value_at OneBit t₂ w)
     unfolding value_at value_in

@@ -127,7 +127,8 @@ pub same_room : (r : Rows) (m n : ℕ) → n ≡ m → Room r m → Room r n
 same_room r m n e room = subst (Room r) (sym e) room
 
 module _ (r : Rows) (mask l t s : List ℕ) (back : Bool) (y i : ℕ) (hi : i < cells r.n) where
-  pub pass_more : (c : Cell) → (c.y ≡ y) × (c.j ≡ turned_of back (cells r.n) i * 8) × (c.k ≡ min 8 (r.n - c.j))
+  pub pass_more : (c : Cell) → (c.y ≡ y) × (c.j ≡ turned_of back (cells r.n) i * 8)
+      × (c.k ≡ min 8 (r.n - c.j))
       → (a b e : Bool) → Visit r mask l t a (PassTo r back y i)
       → Visit r mask t s b (λ v z. (z ≡ c.y) × (8 * c.j ≤ v) × (v < 8 * (c.j + c.k)))
       → e ≡ (a || b) → Visit r mask l s e (PassTo r back y (i + 1))

@@ -183,7 +183,8 @@ fn make(neighbours: Neighbours, w: usize, h: usize, marker: &[u8], mask: &[u8], 
     requires holds { Holds Depth.OneBit (length marker.now) w h }
     requires holds_2 { Holds Depth.OneBit (length mask.now) w h }
     requires holds_3 { Holds Depth.OneBit (length target.old) w h }
-    requires w_value { outside (frame w h) (value_at Depth.OneBit mask.now w) (value_at Depth.OneBit marker.now w)
+    requires w_value { outside (frame w h) (value_at Depth.OneBit mask.now w) (value_at Depth.OneBit
+        marker.now w)
         ≡ false }
     ensures { target.new
         ≡ written Depth.OneBit

@@ -37,23 +37,22 @@ module _ (words : List ℕ) (o : Outline) (few : o.w ≤ most_cells) (box : is_b
 
     pub box_same : (packed grows : Bool) (s : List ℕ) (w h x y : ℕ)
         → boxed packed grows s w h o x y
-        ≡ swept_by grows flat (top (depth_if packed)) (frame w h) (shape_by o words) (value_at (depth_if packed) s
-        w) x y
+        ≡ swept_by grows flat (top (depth_if packed)) (frame w h) (shape_by o words)
+        (value_at (depth_if packed) s w) x y
     unfolding boxed box_shape shape_of
     box_same packed true s w h x y =
-        sym (dilate_cells (shape_by o words) (λ c r. true) cells_on (frame w h) (value_at (depth_if packed) s w)
-        x y flat)
+        sym (dilate_cells (shape_by o words) (λ c r. true) cells_on (frame w h)
+        (value_at (depth_if packed) s w) x y flat)
     box_same packed false s w h x y =
-        sym (erode_cells (shape_by o words) (λ c r. true) cells_on (frame w h) (value_at (depth_if packed) s w)
-        x y flat
-        (top (depth_if packed)))
+        sym (erode_cells (shape_by o words) (λ c r. true) cells_on (frame w h)
+        (value_at (depth_if packed) s w) x y flat (top (depth_if packed)))
 
     -- and so does a picture that is written by it, the way that was found to be the one asked for
     pub as_box : (packed grows found : Bool) (s t u : List ℕ) (w h : ℕ) → grows ≡ found
         → u ≡ written (depth_if packed) (boxed packed found s w h o) w h t
         → u ≡ written (depth_if packed)
-        (swept_by grows flat (top (depth_if packed)) (frame w h) (shape_by o words) (value_at (depth_if packed) s
-        w)) w h t
+        (swept_by grows flat (top (depth_if packed)) (frame w h) (shape_by o words)
+        (value_at (depth_if packed) s w)) w h t
     as_box packed grows found s t u w h q eu =
         eu
         ∙ ap (λ g. written (depth_if packed) (boxed packed g s w h o) w h t) (sym q)

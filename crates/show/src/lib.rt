@@ -5,23 +5,23 @@
 ghost use Rattle.std.specs.Prelude.{◌<◌, length};
 
 use answer::Answer;
-use libc::STDOUT_FILENO;
+use std::io;
 
-pub fn text(s: &[u8]) {
-    io::write_all(STDOUT_FILENO, s);
+pub fn text(rt: &impl Print, s: &[u8]) -> io::Result<()> {
+    rt.write_all(s)
 }
 
-fn number(n: usize) {
-    io::print_decimal(STDOUT_FILENO, n as u64);
+fn number(rt: &impl Print, n: usize) -> io::Result<()> {
+    rt.print(n)
 }
 
-fn like_bytes(n: usize, b: u8) {
-    text(b" ");
+fn like_bytes(rt: &impl Print, n: usize, b: u8) -> io::Result<()> {
+    text(rt, b" ")?;
     if 1 < n {
-        number(n);
-        text(b"*");
+        number(rt, n)?;
+        text(rt, b"*")?;
     }
-    number(b as usize);
+    number(rt, b as usize)
 }
 
 // The bytes that are like the one at `from` end before i.
@@ -35,39 +35,38 @@ fn ends(b: &[u8], from: usize, i: usize) -> bool
 }
 
 // A name, and a buffer: n*b is n bytes b.
-pub fn buffer(name: &[u8], b: &[u8]) {
-    text(name);
+pub fn buffer(rt: &impl Print, name: &[u8], b: &[u8]) -> io::Result<()> {
+    text(rt, name)?;
     let mut from = 0;
     let mut i = 0;
     while i < b.len() {
         i += 1;
         if ends(b, from, i) {
-            like_bytes(i - from, b[from]);
+            like_bytes(rt, i - from, b[from])?;
             from = i;
         }
     }
-    text(b"\n");
+    text(rt, b"\n")
 }
 
 // A coordinate of a split, which is held with 128 added.
-fn coordinate(x: u8) {
+fn coordinate(rt: &impl Print, x: u8) -> io::Result<()> {
     let n = x as usize;
     if n < 128 {
-        text(b" -");
-        number(128 - n);
-        return;
+        text(rt, b" -")?;
+        return number(rt, 128 - n);
     }
-    text(b" ");
-    number(n - 128);
+    text(rt, b" ")?;
+    number(rt, n - 128)
 }
 
-pub fn answered(a: Answer) {
+pub fn answered(rt: &impl Print, a: Answer) -> io::Result<()> {
     let t = answer::tell(a);
-    text(b"answer ");
-    number(t.number as usize);
+    text(rt, b"answer ")?;
+    number(rt, t.number as usize)?;
     if let Answer::Split(x, y) = a {
-        coordinate(x);
-        coordinate(y);
+        coordinate(rt, x)?;
+        coordinate(rt, y)?;
     }
-    text(b"\n");
+    text(rt, b"\n")
 }

@@ -139,7 +139,8 @@ fn say(no: Answer, text: &mut [u8]) -> usize
 
 // A refusal, printed.
 pub fn refused(no: Answer, text: &mut [u8]) -> Outcome
-    ensures answer_value { (result.answer ≡ no) × (result.printed ≡ length (refusal_of (told no) (length text.old))) }
+    ensures answer_value { (result.answer ≡ no)
+        × (result.printed ≡ length (refusal_of (told no) (length text.old))) }
     ensures text_after { text.new ≡ over (refusal_of (told no) (length text.old)) text.old }
 {
     let n = say(no, text);

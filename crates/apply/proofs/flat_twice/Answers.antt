@@ -26,22 +26,22 @@ pub returns-in-OneBit : goal.returns-in-OneBit
 returns-in-OneBit c =
     let a = c.args in
     let q = c.in-OneBit.is in
-    (
-      at_depth
+    record {
+      bytes = at_depth
           (λ d. flat_twice_by a.grows d a.w a.h a.o a.words.now (value_at d a.s.now a.w))
-          a.w a.h a.t.now _ a.depth OneBit q c.bits_twice.ensures.bytes,
-      at_depth (λ d. flat_of a.grows d a.s.now a.w a.h a.o a.words.now)
-          a.w a.h a.scratch.now _ a.depth OneBit q c.bits_twice.ensures.middle,
-    )
+          a.w a.h a.t.now _ a.depth OneBit q c.bits_twice.ensures.bytes;
+      middle = at_depth (λ d. flat_of a.grows d a.s.now a.w a.h a.o a.words.now)
+          a.w a.h a.scratch.now _ a.depth OneBit q c.bits_twice.ensures.middle;
+    }
 
 pub returns-in-EightBit : goal.returns-in-EightBit
 returns-in-EightBit c =
     let a = c.args in
     let q = c.in-EightBit.is in
-    (
-      at_depth
+    record {
+      bytes = at_depth
           (λ d. flat_twice_by a.grows d a.w a.h a.o a.words.now (value_at d a.s.now a.w))
-          a.w a.h a.t.now _ a.depth EightBit q c.bytes_twice.ensures.bytes,
-      at_depth (λ d. flat_of a.grows d a.s.now a.w a.h a.o a.words.now)
-          a.w a.h a.scratch.now _ a.depth EightBit q c.bytes_twice.ensures.middle,
-    )
+          a.w a.h a.t.now _ a.depth EightBit q c.bytes_twice.ensures.bytes;
+      middle = at_depth (λ d. flat_of a.grows d a.s.now a.w a.h a.o a.words.now)
+          a.w a.h a.scratch.now _ a.depth EightBit q c.bytes_twice.ensures.middle;
+    }

@@ -64,14 +64,14 @@ pub sweep_by_plan-requires-then-is_dense : goal.sweep_by_plan-requires-then-is_d
 sweep_by_plan-requires-then-is_dense c =
     let a = c.args in
     let o = c.outline_of-o in
-    let p = c.plan_of-then-is_dense in (
-      subst (λ n. Ready OneBit (length a.s.now) (length a.words.now) a.w a.h (outline_by n))
+    let p = c.plan_of-then-is_dense in record {
+      ready = subst (λ n. Ready OneBit (length a.s.now) (length a.words.now) a.w a.h (outline_by n))
           (sym p.ensures)
           (ready_planned false OneBit _ _ _ _ o.result
           (subst (Ready OneBit (length a.s.now) (length a.words.now) a.w a.h)
-          (sym o.ensures) c.requires.ready)),
-      c.requires.holds,
-    )
+          (sym o.ensures) c.requires.ready));
+      holds = c.requires.holds;
+    }
 
 pub returns-then-is_dense : goal.returns-then-is_dense
 returns-then-is_dense c =

@@ -12,8 +12,7 @@ use Rattle.boxrow.proofs.along_bits.Goals as goal
 pub returns : goal.returns
 returns c =
     let a = c.args in
-    let known : Bytes a.b.now = λ i. let f = c.slice_known-1.given i in
-    omega arith in
+    let known : Bytes a.b.now = search rules in
     let fits : 64 * ((length a.t.now + 63) / 64) ≤ length c.windows.new.b = search rules in
     let copied = c.copy_from.ensures in
     let cleared = c.blot-2.ensures in record {

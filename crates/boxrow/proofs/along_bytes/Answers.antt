@@ -1,7 +1,7 @@
 -- Stands on the windows in place and on what stands at four places of them.
 -- Together they are the row: `bytes_row`.
 use Rattle.boxrow.proofs.Runs.{bytes_row, bytes_left_lem}
-use native.Mathlib.Omega.{arith}
+use borrow.Author.Rules.{rules}
 use Rattle.boxrow.proofs.along_bytes.Goals as goal
 
 pub returns : goal.returns
@@ -10,7 +10,7 @@ returns c =
       row = bytes_row a.grows a.w a.m a.p a.q a.r a.s _ a.b.now _ _ c.requires.target
           c.windows.ensures
           c.lay.ensures;
-      known = λ i. let f = c.slice_known-1.given i in omega arith;
+      known = search rules;
       left = bytes_left_lem a.grows a.w a.m a.p a.q a.r a.s a.b.now _
           c.windows.ensures;
     }

@@ -18,14 +18,15 @@ long s = ap length s.requires.b_value ∙ length-replicate {A = ℕ} 1152 (start
 pub copy_over-requires : goal.copy_over-requires
 copy_over-requires c =
     omega (
-  arith,
-  long c.before.before.before.before,
-  c.requires.s_len_bound,
-)
+      arith,
+      long c.before.before.before.before,
+      c.requires.s_len_bound,
+    )
 
 pub returns : goal.returns
 returns c =
     let a = c.args in
     let p = c.copy_over in
     row_padded a.grows a.s.now p.new.b c.requires.s_len_bound
-    (p.ensures ∙ ap (laid 64 (length a.s.now) (λ i. faced_byte false (get_or a.s.now i 0))) c.requires.b_value)
+    (p.ensures ∙ ap (laid 64 (length a.s.now) (λ i. faced_byte false (get_or a.s.now i 0)))
+    c.requires.b_value)

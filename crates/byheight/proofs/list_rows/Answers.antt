@@ -12,80 +12,74 @@ use mathlib.Core.Path.{◌≡◌, sym, ◌∙◌, subst}
 use native.Mathlib.Nat.{mul-le-mul}
 use native.Mathlib.Omega.{arith}
 use Rattle.byheight.proofs.list_rows.Goals as goal
-use Rattle.byheight.proofs.list_rows.Goals.{After-cells_both-k, After-loop-i, Start}
+use Rattle.byheight.proofs.list_rows.Goals.{In-loop-i, After-cells_both-k, After-loop-i}
 
--- a turn of the loop, for row r = from + i
-abbrev Turn : Type 0
-Turn = tie.In-loop invariant-loop decreases-loop
-
-abbrev entry : Turn → Start
-entry g = g
-
-room : (g : Turn) → g.before.loop.i * (entry g).args.o.w + (entry g).args.o.w ≤ 256
+-- a turn of the loop is for row r = from + i
+room : (g : In-loop-i) → g.loop-i.i * g.args.o.w + g.args.o.w ≤ 256
 room g =
     omega (
       arith,
-      row_room (entry g).args.o.w {y = g.before.loop.i} {n = (entry g).args.n} g.loop-test.taken,
-      (entry g).pre.0.room,
+      row_room g.args.o.w {y = g.loop-i.i} {n = g.args.n} g.loop-i-test.true,
+      g.requires.fits.room,
     )
 
-counted : (g : Turn) → (entry g).args.from + g.before.loop.i < (entry g).args.o.h
-counted g = omega (arith, g.loop-test.taken, (entry g).pre.0.rows)
+counted : (g : In-loop-i) → g.args.from + g.loop-i.i < g.args.o.h
+counted g = omega (arith, g.loop-i-test.true, g.requires.fits.rows)
 
-far : (g : Turn) → (entry g).args.from + g.before.loop.i < 64
-far g = omega (arith, counted g, (entry g).pre.0.high)
+far : (g : In-loop-i) → g.args.from + g.loop-i.i < 64
+far g = omega (arith, counted g, g.requires.fits.high)
 
-few : (g : Turn) → g.before.loop.i < 64
+few : (g : In-loop-i) → g.loop-i.i < 64
 few g = omega (arith, far g)
 
-up_counted : (g : Turn) → g.before.loop.i < length g.before.loop.ups
-up_counted g = omega (arith, few g, g.before.loop.inv.1.up_counts)
+up_counted : (g : In-loop-i) → g.loop-i.i < length g.loop-i.ups
+up_counted g = omega (arith, few g, g.loop-i.invariant.1.up_counts)
 
-down_counted : (g : Turn) → g.before.loop.i < length g.before.loop.downs
-down_counted g = omega (arith, few g, g.before.loop.inv.1.down_counts)
+down_counted : (g : In-loop-i) → g.loop-i.i < length g.loop-i.downs
+down_counted g = omega (arith, few g, g.loop-i.invariant.1.down_counts)
 
-near : (g : Turn) → ((entry g).args.from + g.before.loop.i) * (entry g).args.o.w ≤ most_cells * most_cells
+near : (g : In-loop-i) → (g.args.from + g.loop-i.i) * g.args.o.w ≤ most_cells * most_cells
 near g =
-    mul-le-mul {n₁ = (entry g).args.from + g.before.loop.i} {m₁ = (entry g).args.o.w} {n₂ = most_cells}
-    {m₂ = most_cells} (omega (arith, far g)) (entry g).pre.0.wide
+    mul-le-mul {n₁ = g.args.from + g.loop-i.i} {m₁ = g.args.o.w} {n₂ = most_cells}
+    {m₂ = most_cells} (omega (arith, far g)) g.requires.fits.wide
 
 -- the parts that the cells go to
-up_in : (g : Turn) → let l = g.before.loop in
-    l.i * (entry g).args.o.w + (entry g).args.o.w ≤ length l.rising
-up_in g = omega (arith, room g, g.before.loop.inv.1.up_room)
+up_in : (g : In-loop-i) → let l = g.loop-i in
+    l.i * g.args.o.w + g.args.o.w ≤ length l.rising
+up_in g = omega (arith, room g, g.loop-i.invariant.1.up_room)
 
-down_in : (g : Turn) → let l = g.before.loop in
-    l.i * (entry g).args.o.w + (entry g).args.o.w ≤ length l.others
-down_in g = omega (arith, room g, g.before.loop.inv.1.down_room)
+down_in : (g : In-loop-i) → let l = g.loop-i in
+    l.i * g.args.o.w + g.args.o.w ≤ length l.others
+down_in g = omega (arith, room g, g.loop-i.invariant.1.down_room)
 
-up_part : (g : Turn) → let l = g.before.loop in let p = l.i * (entry g).args.o.w in
-    length (take (p + (entry g).args.o.w - p) (drop p l.rising)) ≡ (entry g).args.o.w
-up_part g = part_length g.before.loop.rising (g.before.loop.i * (entry g).args.o.w)
-    (entry g).args.o.w (up_in g)
+up_part : (g : In-loop-i) → let l = g.loop-i in let p = l.i * g.args.o.w in
+    length (take (p + g.args.o.w - p) (drop p l.rising)) ≡ g.args.o.w
+up_part g = part_length g.loop-i.rising (g.loop-i.i * g.args.o.w)
+    g.args.o.w (up_in g)
 
-down_part : (g : Turn) → let l = g.before.loop in let p = l.i * (entry g).args.o.w in
-    length (take (p + (entry g).args.o.w - p) (drop p l.others)) ≡ (entry g).args.o.w
-down_part g = part_length g.before.loop.others (g.before.loop.i * (entry g).args.o.w)
-    (entry g).args.o.w (down_in g)
+down_part : (g : In-loop-i) → let l = g.loop-i in let p = l.i * g.args.o.w in
+    length (take (p + g.args.o.w - p) (drop p l.others)) ≡ g.args.o.w
+down_part g = part_length g.loop-i.others (g.loop-i.i * g.args.o.w)
+    g.args.o.w (down_in g)
 
 -- both sides of the row, as they are found
-abbrev turn : After-cells_both-k → Turn
+abbrev turn : After-cells_both-k → In-loop-i
 turn c = (goal.at.After-cells_both-k c).In-loop-i
 
-up : (c : After-cells_both-k) → let a = (entry (turn c)).args in
-    let r = a.from + (turn c).before.loop.i in
+up : (c : After-cells_both-k) → let a = c.args in
+    let r = a.from + c.loop-i.i in
     Taken a.grows true (get_or a.words.now r 0) a.o.w a.o.origin.ping.0 a.hs.now
     (r * a.o.w) c.cells_both-k.result.rising c.cells_both-k.new.rising
 up c = let p = c.cells_both-k in
-    taken_is (entry (turn c)).args.grows true _ _ _ _ _ _ p.result.rising p.new.rising
+    taken_is c.args.grows true _ _ _ _ _ _ p.result.rising p.new.rising
     (omega (arith, up_part (turn c))) p.ensures.counts.0 p.ensures.up
 
-down : (c : After-cells_both-k) → let a = (entry (turn c)).args in
-    let r = a.from + (turn c).before.loop.i in
+down : (c : After-cells_both-k) → let a = c.args in
+    let r = a.from + c.loop-i.i in
     Taken a.grows false (get_or a.words.now r 0) a.o.w a.o.origin.ping.0 a.hs.now
     (r * a.o.w) c.cells_both-k.result.others c.cells_both-k.new.others
 down c = let p = c.cells_both-k in
-    taken_is (entry (turn c)).args.grows false _ _ _ _ _ _ p.result.others p.new.others
+    taken_is c.args.grows false _ _ _ _ _ _ p.result.others p.new.others
     (omega (arith, down_part (turn c))) p.ensures.counts.1 p.ensures.down
 
 -- the lists as they came
@@ -127,7 +121,7 @@ bounds-words-r c =
     omega (
       arith,
       counted (goal.at.bounds-words-r c).In-loop-i,
-      (entry (goal.at.bounds-words-r c).In-loop-i).pre.0.words,
+      c.requires.fits.words,
     )
 
 pub overflow_mul-r : goal.overflow_mul-r
@@ -135,17 +129,18 @@ overflow_mul-r c = omega (arith, near (goal.at.overflow_mul-r c).In-loop-i)
 
 pub cells_both-k-requires : goal.cells_both-k-requires
 cells_both-k-requires c =
-    let f = (entry (goal.at.cells_both-k-requires c).In-loop-i).requires.0 in (
-      (omega (arith, f.column, f.wide), (f.wide, near (goal.at.cells_both-k-requires c).In-loop-i)),
-      (omega (arith, up_part (goal.at.cells_both-k-requires c).In-loop-i), omega (arith, down_part (goal.at.cells_both-k-requires c).In-loop-i)),
-    )
+    let f = c.requires.fits in
+    let g = (goal.at.cells_both-k-requires c).In-loop-i in record {
+      o_lt_most_cells = (omega (arith, f.column, f.wide), (f.wide, near g));
+      wide_in_bounds = (omega (arith, up_part g), omega (arith, down_part g));
+    }
 
 pub overflow_cast-ups : goal.overflow_cast-ups
 overflow_cast-ups c =
     omega (
       arith,
       (up (goal.at.overflow_cast-ups c).After-cells_both-k).few,
-      (entry (turn (goal.at.overflow_cast-ups c).After-cells_both-k)).pre.0.wide,
+      c.requires.fits.wide,
     )
 
 pub bounds-ups-i : goal.bounds-ups-i
@@ -156,7 +151,7 @@ overflow_cast-downs c =
     omega (
       arith,
       (down (goal.at.overflow_cast-downs c).After-cells_both-k).few,
-      (entry (turn (goal.at.overflow_cast-downs c).After-cells_both-k)).pre.0.wide,
+      c.requires.fits.wide,
     )
 
 pub bounds-downs-i : goal.bounds-downs-i
@@ -167,33 +162,37 @@ overflow_add-i c = omega (arith, few (turn (goal.at.overflow_add-i c).After-cell
 
 pub loop-i-smaller : goal.loop-i-smaller
 loop-i-smaller c =
-    omega (arith, (turn (goal.at.loop-i-smaller c).After-cells_both-k).loop-test.taken)
+    omega (arith, c.loop-i-test.true)
 
 pub loop-i-preserved : goal.loop-i-preserved
 loop-i-preserved c =
     let g = turn (goal.at.loop-i-preserved c).After-cells_both-k in
-    let a = (entry g).args in
-    let i = g.before.loop.i in
-    let l = g.before.loop in
+    let a = c.args in
+    let i = c.loop-i.i in
+    let l = c.loop-i in
     let p = c.cells_both-k in
     let el : length p.new.rising ≡ a.o.w = p.auto.rising ∙ up_part g in
     let dl : length p.new.others ≡ a.o.w = p.auto.others ∙ down_part g in
     let us = up_counted g in
     let ds = down_counted g in (
-      omega (arith, g.loop-test.taken),
+      omega (arith, g.loop-i-test.true),
       record {
         up_room = new_long a.grows true a.o a.words.now a.hs.now a.from i l.rising
-            l.ups p.new.rising p.result.rising (up_in g) us el l.inv.1.up (up (goal.at.loop-i-preserved c).After-cells_both-k)
-            ∙ l.inv.1.up_room;
+            l.ups p.new.rising p.result.rising (up_in g) us el l.invariant.1.up
+            (up (goal.at.loop-i-preserved c).After-cells_both-k)
+            ∙ l.invariant.1.up_room;
         down_room = new_long a.grows false a.o a.words.now a.hs.now a.from i l.others
-            l.downs p.new.others p.result.others (down_in g) ds dl l.inv.1.down (down (goal.at.loop-i-preserved c).After-cells_both-k)
-            ∙ l.inv.1.down_room;
-        up_counts = length-set l.ups i p.result.rising ∙ l.inv.1.up_counts;
-        down_counts = length-set l.downs i p.result.others ∙ l.inv.1.down_counts;
+            l.downs p.new.others p.result.others (down_in g) ds dl l.invariant.1.down
+            (down (goal.at.loop-i-preserved c).After-cells_both-k)
+            ∙ l.invariant.1.down_room;
+        up_counts = length-set l.ups i p.result.rising ∙ l.invariant.1.up_counts;
+        down_counts = length-set l.downs i p.result.others ∙ l.invariant.1.down_counts;
         up = side_more a.grows true a.o a.words.now a.hs.now a.from i l.rising
-            l.ups p.new.rising p.result.rising (up_in g) us el l.inv.1.up (up (goal.at.loop-i-preserved c).After-cells_both-k);
+            l.ups p.new.rising p.result.rising (up_in g) us el l.invariant.1.up
+            (up (goal.at.loop-i-preserved c).After-cells_both-k);
         down = side_more a.grows false a.o a.words.now a.hs.now a.from i l.others
-            l.downs p.new.others p.result.others (down_in g) ds dl l.inv.1.down (down (goal.at.loop-i-preserved c).After-cells_both-k);
+            l.downs p.new.others p.result.others (down_in g) ds dl l.invariant.1.down
+            (down (goal.at.loop-i-preserved c).After-cells_both-k);
       },
     )
 

@@ -22,7 +22,7 @@ some s = ⊎_elim
 
 pub returns-then-n-left : goal.returns-then-n-left
 returns-then-n-left c =
-    (room c.before.before, (omega (arith, c.if-n-left.true), λ l. some c.before.before))
+    (room c.before, (omega (arith, c.if-n-left.true), λ l. some c.before))
 
 pub returns-else-n-left : goal.returns-else-n-left
 returns-else-n-left c =
@@ -30,7 +30,7 @@ returns-else-n-left c =
     let l : a.left ≤ 256 / a.wide = omega (arith, c.if-n-left.false) in (
       omega (
         arith,
-        room c.before.before,
+        room c.before,
         mul-le-mul {n₁ = a.left} {m₁ = a.wide} {n₂ = 256 / a.wide}
             {m₂ = a.wide} l (le_refl a.wide),
       ),

@@ -40,9 +40,9 @@ fill-requires c =
     record {
       s_len_bound = few (goal.at.fill-requires c).After-row_of-row;
       b_value = ap (replicate 1152) (omega (
-    arith,
-    c.beyond-b.ensures,
-  ));
+        arith,
+        c.beyond-b.ensures,
+      ));
     }
 
 pub few_ends-bold-requires : goal.few_ends-bold-requires
@@ -67,7 +67,8 @@ add_row-requires c =
     let a = c.args in
     let l = c.loop-i in
     let f = c.fill in
-    let b = subst (λ r. Padded a.grows r f.new.b) (row_is (goal.at.add_row-requires c).After-row_of-row) f.ensures in record {
+    let b = subst (λ r. Padded a.grows r f.new.b) (row_is (goal.at.add_row-requires c).After-row_of-row)
+    f.ensures in record {
       ready = c.requires.ready;
       t_len = (l.invariant.1 ∙ c.requires.t_len.0, (c.requires.t_len.1, c.loop-i-test.true));
       fits = (c.requires.fits.0, l.invariant.3);

@@ -8,7 +8,8 @@ use Rattle.byheight.proofs.source_row.Given as goal
 
 abbrev pub invariant-loop-i : goal.invariant-loop-i
 invariant-loop-i l =
-    (l.i ≤ l.n) × (length l.t ≡ length l.initial.t) × Part l.grows l.s l.w l.h l.o l.words l.hs l.from l.n l.v.0 (l.from + l.i) l.t
+    (l.i ≤ l.n) × (length l.t ≡ length l.initial.t)
+    × Part l.grows l.s l.w l.h l.o l.words l.hs l.from l.n l.v.0 (l.from + l.i) l.t
     × Marked l.grows l.w l.h l.marks l.t
 
 abbrev pub decreases-loop-i : goal.decreases-loop-i

@@ -20,35 +20,34 @@ list_rows-requires c =
     record {
       fits = c.requires.t_len.1;
       listed = record {
-    up_room = refl;
-    down_room = refl;
-    up_counts = refl;
-    down_counts = refl;
-    up = λ i h. absurd (not-suc-le-zero h);
-    down = λ i h. absurd (not-suc-le-zero h);
-  };
+        up_room = refl;
+        down_room = refl;
+        up_counts = refl;
+        down_counts = refl;
+        up = λ i h. absurd (not-suc-le-zero h);
+        down = λ i h. absurd (not-suc-le-zero h);
+      };
     }
 
 pub loop-v-init : goal.loop-v-init
-loop-v-init c =
-    (
-      zero-le,
-      refl,
-      c.list_rows.ensures,
-      c.requires.part,
-      (
-        refl,
-        λ y h e. absurd (omega (
-          arith,
-          e,
-          get_or-replicate {A = ℕ} 256 y 0 0 (omega (
-            arith,
-            h,
-            c.requires.ready.few_bins,
-          )),
-        )),
-      ),
-    )
+loop-v-init c = (
+  zero-le,
+  refl,
+  c.list_rows.ensures,
+  c.requires.part,
+  (
+    refl,
+    λ y h e. absurd (omega (
+      arith,
+      e,
+      get_or-replicate {A = ℕ} 256 y 0 0 (omega (
+        arith,
+        h,
+        c.requires.ready.few_bins,
+      )),
+    )),
+  ),
+)
 
 pub slice_bounds-source_row-end : goal.slice_bounds-source_row-end
 slice_bounds-source_row-end c = sym c.loop-v.invariant.4.0

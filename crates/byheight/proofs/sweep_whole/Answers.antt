@@ -27,18 +27,18 @@ sweep_rows-requires c =
     let n = c.rows_at_once-n in record {
       ready = c.requires.ready;
       t_len = (
-          l.invariant.1 ∙ c.begin.auto.t ∙ c.requires.t_len,
-          record {
-            wide = c.requires.ready.few_wide;
-            high = c.requires.ready.few_high;
-            column = c.requires.ready.column;
-            words = c.requires.ready.words;
-            rows = omega (arith, n.ensures.1.0, l.invariant.0);
-            room = n.ensures.0;
-          },
-        );
+        l.invariant.1 ∙ c.begin.auto.t ∙ c.requires.t_len,
+        record {
+          wide = c.requires.ready.few_wide;
+          high = c.requires.ready.few_high;
+          column = c.requires.ready.column;
+          words = c.requires.ready.words;
+          rows = omega (arith, n.ensures.1.0, l.invariant.0);
+          room = n.ensures.0;
+        },
+      );
       part = part_open a.grows a.s.now a.w a.h a.o a.words.now a.hs.now l.r n.result
-            l.t l.invariant.2;
+          l.t l.invariant.2;
     }
 
 pub overflow_add-r : goal.overflow_add-r

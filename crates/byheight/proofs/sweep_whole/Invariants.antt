@@ -9,7 +9,8 @@ use Rattle.byheight.proofs.sweep_whole.Given as goal
 
 abbrev pub invariant-loop-r : goal.invariant-loop-r
 invariant-loop-r l =
-    (l.r ≤ l.o.h) × (length l.t ≡ length l.initial.t) × Part l.grows l.s l.w l.h l.o l.words l.hs l.r 0 0 l.r l.t × Bytes l.t
+    (l.r ≤ l.o.h) × (length l.t ≡ length l.initial.t)
+    × Part l.grows l.s l.w l.h l.o l.words l.hs l.r 0 0 l.r l.t × Bytes l.t
 
 abbrev pub decreases-loop-r : goal.decreases-loop-r
 decreases-loop-r l = l.o.h - l.r

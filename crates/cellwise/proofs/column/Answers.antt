@@ -15,10 +15,10 @@ pick-k-requires c =
       into_len = (refl, p.1.few);
       le_w = (c.requires.ready.some_pings, p.0);
       by_index = place_few a.grows a.s.now a.w a.h a.o a.words.now
-            (λ i. let f = c.type_inv.s i in omega
-            arith) c.requires.middle
-            c.requires.ready.column c.requires.ready.row a.at.now p.1 c.requires.ready.few_pings
-            c.requires.ready.few_high c.requires.ready.few_wide;
+          (λ i. let f = c.type_inv.s i in omega
+          arith) c.requires.middle
+          c.requires.ready.column c.requires.ready.row a.at.now p.1 c.requires.ready.few_pings
+          c.requires.ready.few_high c.requires.ready.few_wide;
     }
 
 pub overflow_mul-up : goal.overflow_mul-up

@@ -4,8 +4,7 @@ use native.Mathlib.Omega.{arith}
 use Rattle.cellwise.proofs.columns.Goals as goal
 
 pub loop-x-init : goal.loop-x-init
-loop-x-init c =
-    (
+loop-x-init c = (
   omega arith,
   (
     c.requires.from_le_to.0,
@@ -27,9 +26,9 @@ column-requires c =
 pub loop-x-preserved : goal.loop-x-preserved
 loop-x-preserved c =
     let l = c.loop-x in (
-  omega (arith, l.invariant.0),
-  (omega arith, c.column.ensures),
-)
+      omega (arith, l.invariant.0),
+      (omega arith, c.column.ensures),
+    )
 
 pub returns : goal.returns
 returns c =

@@ -33,10 +33,10 @@ make_row-requires c =
     record {
       ready = c.requires.ready;
       t_len = (
-    part_length c.loop-y.t
-        _ _ (room (goal.at.make_row-requires c).In-loop-y),
-    omega (arith, c.requires.from_le_to.1),
-  );
+        part_length c.loop-y.t
+            _ _ (room (goal.at.make_row-requires c).In-loop-y),
+        omega (arith, c.requires.from_le_to.1),
+      );
     }
 
 pub loop-y-preserved : goal.loop-y-preserved

@@ -58,21 +58,22 @@ columns-requires c =
       ready = c.requires.ready;
       middle = c.requires.middle;
       from_le_to = (
-            omega arith,
-            (
-              omega (
-                arith,
-                c.back_of-back.ensures.1,
-                c.requires.middle.wide,
-              ),
-              c.requires.places,
-            ),
-          );
+        omega arith,
+        (
+          omega (
+            arith,
+            c.back_of-back.ensures.1,
+            c.requires.middle.wide,
+          ),
+          c.requires.places,
+        ),
+      );
       across = middle_made a.grows a.s.now a.w a.h a.o a.words.now
-              (λ i. let f = c.type_inv.s i in omega arith) c.requires.middle
-              c.requires.ready.column c.requires.ready.row a.at.now c.requires.places a.t.now _
-              c.up_of-up.result c.back_of-back.result a.n c.up_of-up.ensures.0
-              c.back_of-back.ensures.0 c.requires.at_nonzero.0 c.requires.at_nonzero.1.1 c.requires.t_len c.lay.ensures;
+          (λ i. let f = c.type_inv.s i in omega arith) c.requires.middle
+          c.requires.ready.column c.requires.ready.row a.at.now c.requires.places a.t.now _
+          c.up_of-up.result c.back_of-back.result a.n c.up_of-up.ensures.0
+          c.back_of-back.ensures.0 c.requires.at_nonzero.0 c.requires.at_nonzero.1.1 c.requires.t_len
+          c.lay.ensures;
     }
 
 pub columns-requires-2 : goal.columns-requires-2
@@ -82,13 +83,13 @@ columns-requires-2 c =
       ready = c.requires.ready;
       middle = c.requires.middle;
       from_le_to = (
-            omega (
-              arith,
-              c.back_of-back.ensures.1,
-              c.requires.middle.wide,
-            ),
-            (omega arith, c.requires.places),
-          );
+        omega (
+          arith,
+          c.back_of-back.ensures.1,
+          c.requires.middle.wide,
+        ),
+        (omega arith, c.requires.places),
+      );
       across = past_middle a.grows a.s.now a.w a.h a.o a.words.now _
-              c.back_of-back.result c.back_of-back.ensures.0 c.columns.ensures;
+          c.back_of-back.result c.back_of-back.ensures.0 c.columns.ensures;
     }

@@ -12,7 +12,10 @@ loop-j-init c = (omega arith, picked_none _ _ _ _ _ c.requires.into_len.0)
 pub keep-n-requires : goal.keep-n-requires
 keep-n-requires c =
     let l = c.loop-j in record {
-      into_len = (l.invariant.1.long, (omega (arith, l.invariant.1.few, c.requires.into_len.1), c.requires.le_w.0));
+      into_len = (
+        l.invariant.1.long,
+        (omega (arith, l.invariant.1.few, c.requires.into_len.1), c.requires.le_w.0),
+      );
       x_lt_w = (c.requires.le_w.1, omega (arith, c.wide.ensures, c.requires.by_index l.j (omega arith)));
     }
 

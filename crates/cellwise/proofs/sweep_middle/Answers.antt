@@ -24,7 +24,7 @@ fill_rows-requires c =
       ready = c.requires.ready;
       from_le_to = (omega arith, omega (arith, c.up_of-up.ensures.1, c.requires.middle.high));
       down = rows_of a.grows a.s.now a.w a.h a.o a.words.now _ c.up_of-up.result
-            c.up_of-up.ensures.0 c.middle.ensures;
+          c.up_of-up.ensures.0 c.middle.ensures;
     }
 
 pub fill_rows-requires-2 : goal.fill_rows-requires-2
@@ -32,15 +32,15 @@ fill_rows-requires-2 c =
     let a = c.args in record {
       ready = c.requires.ready;
       from_le_to = (
-          omega (
-            arith,
-            c.up_of-up.ensures.1,
-            c.requires.middle.high,
-          ),
-          omega arith,
-        );
+        omega (
+          arith,
+          c.up_of-up.ensures.1,
+          c.requires.middle.high,
+        ),
+        omega arith,
+      );
       down = past_rows a.grows a.s.now a.w a.h a.o a.words.now _ c.up_of-up.result
-            (c.up_of-up.result + (a.h + 1 - a.o.h)) c.fill_rows.ensures;
+          (c.up_of-up.result + (a.h + 1 - a.o.h)) c.fill_rows.ensures;
     }
 
 pub returns : goal.returns

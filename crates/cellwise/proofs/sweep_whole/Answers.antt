@@ -6,12 +6,12 @@ use Rattle.cellwise.proofs.sweep_whole.Goals as goal
 pub middle_bytes-n-requires : goal.middle_bytes-n-requires
 middle_bytes-n-requires c =
     let r = c.requires.ready in (
-  r.some_pings,
-  (
-    r.few_pings,
-    r.few_bins,
-  ),
-)
+      r.some_pings,
+      (
+        r.few_pings,
+        r.few_bins,
+      ),
+    )
 
 pub sweep_middle-requires : goal.sweep_middle-requires
 sweep_middle-requires c =

@@ -13,7 +13,8 @@ use Rattle.cellwise.specs.Steps.Spots.{side_of, spot_of, Cell}
 
 -- what the element makes of the picture in the bytes s
 abbrev pub swept_flat : Bool → List ℕ → ℕ → ℕ → Outline → List ℕ → Picture
-swept_flat grows s w h o words = swept_by grows flat 255 (frame w h) (shape_by o words) (value_at EightBit s w)
+swept_flat grows s w h o words =
+    swept_by grows flat 255 (frame w h) (shape_by o words) (value_at EightBit s w)
 
 -- the first column, and the first row, of the middle
 abbrev pub back_of : Bool → Outline → ℕ

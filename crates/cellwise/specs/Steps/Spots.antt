@@ -1,5 +1,6 @@
 -- The places of cells in the source, and those of them that another column sees.
-use Rattle.std.specs.Prelude.{ℕ, ◌+◌, ◌-◌, ◌*◌, ◌%◌, ◌≤◌, ◌<◌, ◌≡◌, Bool, true, cond, ◌&&◌, List, leb, ltb, length, get_or}
+use Rattle.std.specs.Prelude.{ℕ, ◌+◌, ◌-◌, ◌*◌, ◌%◌, ◌≤◌, ◌<◌, ◌≡◌, Bool, true, cond, ◌&&◌, List, leb}
+use Rattle.std.specs.Prelude.{ltb, length, get_or}
 use Rattle.element.specs.declared.Outline.{Outline}
 use Rattle.element.specs.Record.{cell_on}
 

@@ -6,7 +6,8 @@ use Rattle.chained.proofs.each_link.Given as goal
 
 abbrev pub invariant-loop-i : goal.invariant-loop-i
 invariant-loop-i l =
-    (l.i ≤ l.links) × After l.grows l.depth l.w l.h l.source l.all l.initial.first l.initial.second l.first l.second l.i
+    (l.i ≤ l.links)
+    × After l.grows l.depth l.w l.h l.source l.all l.initial.first l.initial.second l.first l.second l.i
 
 abbrev pub decreases-loop-i : goal.decreases-loop-i
 decreases-loop-i l = l.links - l.i

@@ -13,7 +13,8 @@ pub each_link-requires : goal.each_link-requires
 each_link-requires c =
     let a = c.args in
     going a.depth a.grows a.w a.h a.source.now a.links a.chain.now a.first.now
-    a.second.now c.read_links-read.result c.requires c.read_links-read.ensures (chain_bytes (goal.at.each_link-requires c).After-read_links-read)
+    a.second.now c.read_links-read.result c.requires c.read_links-read.ensures
+    (chain_bytes (goal.at.each_link-requires c).After-read_links-read)
 
 pub returns : goal.returns
 returns c =

@@ -1,6 +1,7 @@
 -- How the loop over links goes:
 -- one link from what is before it into the other buffer, by the links that were read.
-use Rattle.std.specs.Prelude.{ℕ, zero, suc, ◌%◌, ◌≤◌, ◌<◌, ◌≡◌, Bool, true, false, cond, List, eqb, length, get_or}
+use Rattle.std.specs.Prelude.{ℕ, zero, suc, ◌%◌, ◌≤◌, ◌<◌, ◌≡◌, Bool, true, false, cond, List, eqb}
+use Rattle.std.specs.Prelude.{length, get_or}
 use Rattle.answer.specs.Answer.{plain}
 use Rattle.answer.specs.Refuse.{refuse}
 use Rattle.picture.specs.declared.Depth.{Depth}

@@ -1,6 +1,7 @@
 -- Nothing is written before all is judged: a refusal returns with both buffers as they were.
 -- Where nothing is refused the picture is admitted and the element is the descriptor's (`judged`),
 -- and the difference is made.
+use mathlib.Core.Path.{◌≡◌}
 use Rattle.differences.proofs.Made.{made_written, middle_written}
 use Rattle.apply.proofs.Read.{parts_read}
 use Rattle.element.specs.declared.Element.{Element}
@@ -56,19 +57,17 @@ returns-then-is_done c =
     let k = judged (goal.at.returns-then-is_done c).Then-is_done in
     let q = found (goal.at.returns-then-is_done c).After-rows_at-words in
     let A = value_at OneBit a.source.now a.w in
-    (
-      k.given,
-      (
-        made_by_lem a.target.now _ _ _ k.given _ k.done
+    record {
+      answer = k.given;
+      bytes = made_by_lem a.target.now _ _ _ k.given _ k.done
             (made_written c.args.element.now k.cells
             (λ i. let l = c.type_inv.element i in omega arith)
-            OneBit a.w a.h A a.which _ q a.target.now _ c.make_bits.ensures.bytes),
-        made_by_lem a.scratch.now _ _ _ k.given _ k.done
+            OneBit a.w a.h A a.which _ q a.target.now _ c.make_bits.ensures.bytes);
+      middle = made_by_lem a.scratch.now _ _ _ k.given _ k.done
             (middle_written c.args.element.now k.cells
             (λ i. let l = c.type_inv.element i in omega arith)
-            OneBit a.w a.h A a.which _ q a.scratch.now _ c.make_bits.ensures.middle),
-      ),
-    )
+            OneBit a.w a.h A a.which _ q a.scratch.now _ c.make_bits.ensures.middle);
+    }
 
 pub returns : goal.returns
 returns c =

@@ -13,10 +13,12 @@ loop-r-init c =
 
 pub list_row-n-requires : goal.list_row-n-requires
 list_row-n-requires c =
-    let l = c.loop-r in (
-  c.requires.sized,
-  (search rules, (l.invariant.1.0, l.invariant.1.1)),
-)
+    let l = c.loop-r in record {
+      sized = c.requires.sized;
+      r_lt_h = search rules;
+      rowed = l.invariant.1.0;
+      counted = l.invariant.1.1;
+    }
 
 pub shape_of-at-then-n-gt-FEW : goal.shape_of-at-then-n-gt-FEW
 shape_of-at-then-n-gt-FEW c =
@@ -27,11 +29,12 @@ shape_of-at-then-n-gt-FEW c =
 pub returns-then-n-gt-FEW : goal.returns-then-n-gt-FEW
 returns-then-n-gt-FEW c =
     let a = c.args in
-    (
-      too_many a.grows a.w a.o a.words.now a.o.h _ _ (omega arith)
-          (rowed_long a.grows a.w a.o a.words.now _ _ _ c.list_row-n.ensures.list),
-      count_past a.words.now a.o.w (c.loop-r.r + 1) a.o.h _ (omega arith) (omega arith) c.list_row-n.ensures.number,
-    )
+    record {
+      list = too_many a.grows a.w a.o a.words.now a.o.h _ _ (omega arith)
+          (rowed_long a.grows a.w a.o a.words.now _ _ _ c.list_row-n.ensures.list);
+      number = count_past a.words.now a.o.w (c.loop-r.r + 1) a.o.h _ (omega arith) (omega arith)
+          c.list_row-n.ensures.number;
+    }
 
 pub loop-r-preserved : goal.loop-r-preserved
 loop-r-preserved c = (omega arith, (c.list_row-n.ensures.list, c.list_row-n.ensures.number))

@@ -70,19 +70,19 @@ push-count-requires c =
 pub overflow_sub-m : goal.overflow_sub-m
 overflow_sub-m c =
     omega (
-  arith,
-  c.cell_bit-m.ensures,
-  c.first_cell-c.ensures.1.0,
-)
+      arith,
+      c.cell_bit-m.ensures,
+      c.first_cell-c.ensures.1.0,
+    )
 
 pub loop-m-smaller : goal.loop-m-smaller
 loop-m-smaller c =
     omega (
-  arith,
-  c.cell_bit-m.ensures,
-  c.first_cell-c.ensures.1.0,
-  pow_pos (63 - c.first_cell-c.result),
-)
+      arith,
+      c.cell_bit-m.ensures,
+      c.first_cell-c.ensures.1.0,
+      pow_pos (63 - c.first_cell-c.result),
+    )
 
 pub loop-m-preserved : goal.loop-m-preserved
 loop-m-preserved c =
@@ -90,8 +90,7 @@ loop-m-preserved c =
     let l = c.loop-m in
     let f = c.first_cell-c.ensures in
     let e = sym c.cell_bit-m.ensures in
-    let is = word_masked (get_or a.words.now a.r 0) a.o.w _ c.run_word.ensures in
-    (
+    let is = word_masked (get_or a.words.now a.r 0) a.o.w _ c.run_word.ensures in (
       subst (λ b. (d : ℕ) → d < 64 → cell_on64 (l.m - b) d ≡ true
           → cell_on64 (bit_and (get_or a.words.now a.r 0) c.run_word.result) d ≡ true) e
           (sub_more a.grows a.w a.o a.words.now c.requires.sized.few_wide a.r _ is c.requires.r_lt_h
@@ -103,7 +102,8 @@ loop-m-preserved c =
             (cell_more a.grows a.w a.o a.words.now c.requires.sized.few_wide a.r _ is
             c.requires.r_lt_h l.m l.count l.at l.invariant.1.0 l.invariant.0 c.first_cell-c.result
             f.0 f.1.0 f.1.1.0 _ _ _
-            (ap₂ (λ q d. q * a.w + d) c.side.ensures.0 c.side-in-loop-m.ensures.0) c.push-count.ensures.number c.push-count.ensures.list),
+            (ap₂ (λ q d. q * a.w + d) c.side.ensures.0 c.side-in-loop-m.ensures.0)
+            c.push-count.ensures.number c.push-count.ensures.list),
         subst (λ b. Counted c.push-count.result (ones (l.m - b))
             (cells_in a.words.now a.o.w (a.r + 1))) e
             (count_more l.count l.m c.first_cell-c.result _ _ f.1.0 f.1.1.0 f.0 c.push-count.ensures.number

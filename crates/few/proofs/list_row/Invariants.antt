@@ -12,7 +12,8 @@ abbrev pub invariant-loop-m : goal.invariant-loop-m
 invariant-loop-m l =
     ((c : ℕ) → c < 64 → cell_on64 l.m c ≡ true
     → cell_on64 l.word c ≡ true)
-    × (Inner l.grows l.w l.o l.words l.r l.m l.count l.at × Counted l.count (ones l.m) (cells_in l.words l.o.w (l.r + 1)))
+    × (Inner l.grows l.w l.o l.words l.r l.m l.count l.at
+    × Counted l.count (ones l.m) (cells_in l.words l.o.w (l.r + 1)))
 
 abbrev pub decreases-loop-m : goal.decreases-loop-m
 decreases-loop-m l = l.m

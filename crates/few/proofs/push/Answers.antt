@@ -5,7 +5,10 @@ use Rattle.few.proofs.push.Goals as goal
 
 pub returns-then-count-ge-FEW : goal.returns-then-count-ge-FEW
 returns-then-count-ge-FEW c =
-    (simp (le-ltb _ _ c.if-count-ge-FEW.true), simp (le-ltb _ _ c.if-count-ge-FEW.true))
+    record {
+      number = simp (le-ltb _ _ c.if-count-ge-FEW.true);
+      list = simp (le-ltb _ _ c.if-count-ge-FEW.true);
+    }
 
 pub returns : goal.returns
 returns c =

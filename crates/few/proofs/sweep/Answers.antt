@@ -11,16 +11,25 @@ use Rattle.few.proofs.sweep.Goals as goal
 
 pub list_cells-m-requires : goal.list_cells-m-requires
 list_cells-m-requires c =
-    let r = c.requires.ready in (
-  record { few_pings = r.few_pings; few_wide = r.few_wide; few_high = r.few_high; words = r.words },
-  refl,
-)
+    let r = c.requires.ready in record {
+      sized = record {
+        few_pings = r.few_pings;
+        few_wide = r.few_wide;
+        few_high = r.few_high;
+        words =
+            r.words;
+      };
+      at_len = refl;
+    }
 
 pub returns-then-m-gt-FEW : goal.returns-then-m-gt-FEW
 returns-then-m-gt-FEW c =
     let a = c.args in
     let n = few_no _ _ (omega arith) c.list_cells-m.ensures.number in
-    (sym n, when_many _ _ a.t.now n)
+    record {
+      few = sym n;
+      bytes = when_many _ _ a.t.now n;
+    }
 
 pub slice_bounds-sweep_whole-end-2 : goal.slice_bounds-sweep_whole-end-2
 slice_bounds-sweep_whole-end-2 c =
@@ -35,7 +44,7 @@ sweep_whole-requires c =
     let a = c.args in record {
       ready = c.requires.ready;
       places = places_of a.grows a.w a.o a.words.now c.list_cells-m.result
-            c.list_cells-m.new.at (omega arith) c.list_cells-m.ensures.list;
+          c.list_cells-m.new.at (omega arith) c.list_cells-m.ensures.list;
       t_len = length-take-le (a.h * a.w) a.t.now c.requires.holds.long;
     }
 

@@ -24,15 +24,18 @@ returns-then-not-is_counted c =
 
 pub returns-then-first-n : goal.returns-then-first-n
 returns-then-first-n c =
-    first_short _ _ _ _ _ _ (right_size (goal.at.returns-then-first-n c).Else-not-sized) (right_number (goal.at.returns-then-first-n c).Else-not-is_counted) _
+    first_short _ _ _ _ _ _ (right_size (goal.at.returns-then-first-n c).Else-not-sized)
+    (right_number (goal.at.returns-then-first-n c).Else-not-is_counted) _
     c.picture_bytes-n.ensures c.if-first-n.true
 
 pub returns-then-second-n : goal.returns-then-second-n
 returns-then-second-n c =
-    second_short _ _ _ _ _ _ (right_size (goal.at.returns-then-second-n c).Else-not-sized) (right_number (goal.at.returns-then-second-n c).Else-not-is_counted) _
+    second_short _ _ _ _ _ _ (right_size (goal.at.returns-then-second-n c).Else-not-sized)
+    (right_number (goal.at.returns-then-second-n c).Else-not-is_counted) _
     c.picture_bytes-n.ensures c.if-first-n.false c.if-second-n.true
 
 pub returns : goal.returns
 returns c =
-    both_long _ _ _ _ _ _ (right_size (goal.at.returns c).Else-not-sized) (right_number (goal.at.returns c).Else-not-is_counted) _
+    both_long _ _ _ _ _ _ (right_size (goal.at.returns c).Else-not-sized)
+    (right_number (goal.at.returns c).Else-not-is_counted) _
     c.picture_bytes-n.ensures c.if-first-n.false c.if-second-n.false

@@ -8,13 +8,15 @@ use Rattle.flat.proofs.close.Goals as goal
 pub returns-in-OneBit : goal.returns-in-OneBit
 returns-in-OneBit c =
     let a = c.args in
-    twice_at a.depth OneBit c.in-OneBit.is a.w a.h a.source.now
+    let r = twice_at a.depth OneBit c.in-OneBit.is a.w a.h a.source.now
     a.element.now _ _ true a.target.now _ a.scratch.now _
-    (c.twice_bits.ensures.answer, (c.twice_bits.ensures.bytes, c.twice_bits.ensures.middle))
+    (c.twice_bits.ensures.answer, (c.twice_bits.ensures.bytes, c.twice_bits.ensures.middle)) in
+    record { answer = r.0; bytes = r.1.0; middle = r.1.1 }
 
 pub returns-in-EightBit : goal.returns-in-EightBit
 returns-in-EightBit c =
     let a = c.args in
-    twice_at a.depth EightBit c.in-EightBit.is a.w a.h a.source.now
+    let r = twice_at a.depth EightBit c.in-EightBit.is a.w a.h a.source.now
     a.element.now _ _ true a.target.now _ a.scratch.now _
-    (c.twice_bytes.ensures.answer, (c.twice_bytes.ensures.bytes, c.twice_bytes.ensures.middle))
+    (c.twice_bytes.ensures.answer, (c.twice_bytes.ensures.bytes, c.twice_bytes.ensures.middle)) in
+    record { answer = r.0; bytes = r.1.0; middle = r.1.1 }

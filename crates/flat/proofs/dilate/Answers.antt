@@ -8,13 +8,15 @@ use Rattle.flat.proofs.dilate.Goals as goal
 pub returns-in-OneBit : goal.returns-in-OneBit
 returns-in-OneBit c =
     let a = c.args in
-    once_at a.depth OneBit c.in-OneBit.is a.w a.h
+    let r = once_at a.depth OneBit c.in-OneBit.is a.w a.h
     a.source.now a.element.now
-    _ _ true a.target.now _ (c.run_bits.ensures.answer, c.run_bits.ensures.bytes)
+    _ _ true a.target.now _ (c.run_bits.ensures.answer, c.run_bits.ensures.bytes) in
+    record { answer = r.0; bytes = r.1 }
 
 pub returns-in-EightBit : goal.returns-in-EightBit
 returns-in-EightBit c =
     let a = c.args in
-    once_at a.depth EightBit c.in-EightBit.is a.w a.h
+    let r = once_at a.depth EightBit c.in-EightBit.is a.w a.h
     a.source.now a.element.now
-    _ _ true a.target.now _ (c.run_bytes.ensures.answer, c.run_bytes.ensures.bytes)
+    _ _ true a.target.now _ (c.run_bytes.ensures.answer, c.run_bytes.ensures.bytes) in
+    record { answer = r.0; bytes = r.1 }

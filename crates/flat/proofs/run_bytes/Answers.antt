@@ -1,6 +1,7 @@
 -- Nothing is written before all is judged: a refusal returns with the target as it was.
 -- Where nothing is refused the picture is admitted and the element is the descriptor's (`judged`),
 -- and apply does the rest.
+use mathlib.Core.Path.{◌≡◌}
 use Rattle.flat.proofs.Known.{Known, known, answer_is, room_holds, element_ready, once_left}
 use Rattle.apply.proofs.Read.{parts_read}
 use Rattle.element.specs.declared.Element.{Element}
@@ -48,13 +49,13 @@ flat_bytes-requires c =
 pub returns-then-is_done : goal.returns-then-is_done
 returns-then-is_done c =
     let a = c.args in
-    let q = found (goal.at.returns-then-is_done c).After-rows_at-words in (
-      (judged (goal.at.returns-then-is_done c).Then-is_done).given,
-      once_left (judged (goal.at.returns-then-is_done c).Then-is_done) _ q
+    let q = found (goal.at.returns-then-is_done c).After-rows_at-words in record {
+      answer = (judged (goal.at.returns-then-is_done c).Then-is_done).given;
+      bytes = once_left (judged (goal.at.returns-then-is_done c).Then-is_done) _ q
           (λ i. let l = c.type_inv.element i in omega arith)
           a.target.now _ _ (grows_of a.way) c.is_growing-grows.ensures
-          c.flat_bytes.ensures,
-    )
+          c.flat_bytes.ensures;
+    }
 
 pub returns : goal.returns
 returns c =

@@ -1,6 +1,7 @@
 -- Nothing is written before all is judged: a refusal returns with both buffers as they were.
 -- Where nothing is refused the picture is admitted and the element is the descriptor's (`judged`),
 -- and apply does the rest.
+use mathlib.Core.Path.{◌≡◌}
 use Rattle.flat.proofs.Known.{Known, known, answer_is, room_holds, element_ready}
 use Rattle.flat.proofs.Known.{once_left, twice_left}
 use Rattle.apply.proofs.Read.{parts_read}
@@ -57,15 +58,13 @@ returns-then-is_done c =
     let k = judged (goal.at.returns-then-is_done c).Then-is_done in
     let q = found (goal.at.returns-then-is_done c).After-rows_at-words in
     let g = c.is_growing-grows.ensures in
-    (
-      k.given,
-      (
-        twice_left k _ q (λ i. let l = c.type_inv.element i in omega arith)
-            a.target.now _ _ (grows_of a.first) g c.bytes_twice.ensures.bytes,
-        once_left k _ q (λ i. let l = c.type_inv.element i in omega arith)
-            a.scratch.now _ _ (grows_of a.first) g c.bytes_twice.ensures.middle,
-      ),
-    )
+    record {
+      answer = k.given;
+      bytes = twice_left k _ q (λ i. let l = c.type_inv.element i in omega arith)
+          a.target.now _ _ (grows_of a.first) g c.bytes_twice.ensures.bytes;
+      middle = once_left k _ q (λ i. let l = c.type_inv.element i in omega arith)
+          a.scratch.now _ _ (grows_of a.first) g c.bytes_twice.ensures.middle;
+    }
 
 pub returns : goal.returns
 returns c =

@@ -10,48 +10,48 @@ use Rattle.gathers.proofs.block.Goals as goal
 pub overflow_add-i : goal.overflow_add-i
 overflow_add-i c =
     omega (
-  arith,
-  c.requires.reached 0 c.requires.at_nonzero,
-  c.wide.ensures,
-)
+      arith,
+      c.requires.reached 0 c.requires.at_nonzero,
+      c.wide.ensures,
+    )
 
 pub block_at-acc-requires : goal.block_at-acc-requires
 block_at-acc-requires c =
     omega (
-  arith,
-  c.requires.reached 0 c.requires.at_nonzero,
-  c.wide.ensures,
-)
+      arith,
+      c.requires.reached 0 c.requires.at_nonzero,
+      c.wide.ensures,
+    )
 
 pub loop-j-init : goal.loop-j-init
 loop-j-init c =
     let a = c.args in (
-  omega arith,
-  (
-    search rules,
-    (
-      search rules,
-      block_first a.grows a.s.now a.at.now c.block_at-acc.result a.i _
-          c.wide.ensures c.block_at-acc.ensures (search rules),
-    ),
-  ),
-)
+      omega arith,
+      (
+        search rules,
+        (
+          search rules,
+          block_first a.grows a.s.now a.at.now c.block_at-acc.result a.i _
+              c.wide.ensures c.block_at-acc.ensures (search rules),
+        ),
+      ),
+    )
 
 pub overflow_add-i-in-loop-j : goal.overflow_add-i-in-loop-j
 overflow_add-i-in-loop-j c =
     omega (
-  arith,
-  c.requires.reached c.loop-j.j (omega arith),
-  c.wide-in-loop-j.ensures,
-)
+      arith,
+      c.requires.reached c.loop-j.j (omega arith),
+      c.wide-in-loop-j.ensures,
+    )
 
 pub join_block-next-requires : goal.join_block-next-requires
 join_block-next-requires c =
     omega (
-  arith,
-  c.requires.reached c.loop-j.j (omega arith),
-  c.wide-in-loop-j.ensures,
-)
+      arith,
+      c.requires.reached c.loop-j.j (omega arith),
+      c.wide-in-loop-j.ensures,
+    )
 
 pub loop-j-preserved : goal.loop-j-preserved
 loop-j-preserved c =

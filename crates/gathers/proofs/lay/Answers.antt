@@ -9,12 +9,12 @@ pub lay_blocks-requires : goal.lay_blocks-requires
 lay_blocks-requires c =
     record {
       at_nonzero = (
-    c.requires.at_nonzero.0,
-    omega (
-      arith,
-      c.requires.at_nonzero.1.1,
-    ),
-  );
+        c.requires.at_nonzero.0,
+        omega (
+          arith,
+          c.requires.at_nonzero.1.1,
+        ),
+      );
       reached = λ j h. omega (arith, c.requires.reached j h);
     }
 

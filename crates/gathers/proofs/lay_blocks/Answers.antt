@@ -16,7 +16,7 @@ block-c-requires c =
     record {
       at_nonzero = c.requires.at_nonzero.0;
       reached = λ j h. omega
-      (arith, c.requires.reached j h);
+          (arith, c.requires.reached j h);
     }
 
 pub loop-k-preserved : goal.loop-k-preserved

@@ -15,18 +15,18 @@ loop-j-init c = (search rules, c.beyond-c.ensures)
 pub overflow_add-i : goal.overflow_add-i
 overflow_add-i c =
     omega (
-  arith,
-  c.requires c.loop-j.j (omega arith),
-  c.wide.ensures,
-)
+      arith,
+      c.requires c.loop-j.j (omega arith),
+      c.wide.ensures,
+    )
 
 pub bounds-s-i : goal.bounds-s-i
 bounds-s-i c =
     omega (
-  arith,
-  c.requires c.loop-j.j (omega arith),
-  c.wide.ensures,
-)
+      arith,
+      c.requires c.loop-j.j (omega arith),
+      c.wide.ensures,
+    )
 
 pub loop-j-preserved : goal.loop-j-preserved
 loop-j-preserved c =

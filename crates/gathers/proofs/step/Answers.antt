@@ -16,11 +16,11 @@ loop-i-init c = (search rules, (search rules, refl))
 pub overflow_mul-i : goal.overflow_mul-i
 overflow_mul-i c =
     omega (
-  arith,
-  c.requires.by_index c.loop-i.i (search
-      rules),
-  c.loop-i.invariant.1.0,
-)
+      arith,
+      c.requires.by_index c.loop-i.i (search
+          rules),
+      c.loop-i.invariant.1.0,
+    )
 
 pub point-requires : goal.point-requires
 point-requires c =
@@ -30,26 +30,26 @@ point-requires c =
 pub overflow_mul-t : goal.overflow_mul-t
 overflow_mul-t c =
     omega (
-  arith,
-  c.requires.by_index c.loop-i.i (search rules),
-  c.loop-i.invariant.1.0,
-)
+      arith,
+      c.requires.by_index c.loop-i.i (search rules),
+      c.loop-i.invariant.1.0,
+    )
 
 pub overflow_add-t : goal.overflow_add-t
 overflow_add-t c =
     omega (
-  arith,
-  c.requires.by_index c.loop-i.i (search rules),
-  c.loop-i.invariant.1.0,
-)
+      arith,
+      c.requires.by_index c.loop-i.i (search rules),
+      c.loop-i.invariant.1.0,
+    )
 
 pub bounds-t-a : goal.bounds-t-a
 bounds-t-a c =
     omega (
-  arith,
-  c.requires.by_index c.loop-i.i (search rules),
-  c.loop-i.invariant.1.0,
-)
+      arith,
+      c.requires.by_index c.loop-i.i (search rules),
+      c.loop-i.invariant.1.0,
+    )
 
 pub loop-i-preserved : goal.loop-i-preserved
 loop-i-preserved c =

@@ -11,7 +11,8 @@ use Rattle.gathers.proofs.step.Given as goal
 abbrev pub invariant-loop-i : goal.invariant-loop-i
 invariant-loop-i l =
     (l.i ≤ l.n) × ((length l.t ≡ length l.initial.t)
-    × (l.t ≡ stepped l.a l.w l.i (λ i. at_places l.grows (start_by l.grows 255) l.s (i * l.w) l.at (length l.at)) l.initial.t))
+    × (l.t ≡ stepped l.a l.w l.i
+    (λ i. at_places l.grows (start_by l.grows 255) l.s (i * l.w) l.at (length l.at)) l.initial.t))
 
 abbrev pub decreases-loop-i : goal.decreases-loop-i
 decreases-loop-i l = l.n - l.i

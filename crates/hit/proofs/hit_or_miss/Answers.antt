@@ -43,10 +43,10 @@ element_at-b-requires c =
 pub hit_rows-requires : goal.hit_rows-requires
 hit_rows-requires c =
     let a = c.args in
-    let k = known (goal.at.hit_rows-requires c).After-refusal-no in record {
-      ready = ready OneBit _ _ a.w a.h _ (source_holds (goal.at.hit_rows-requires c).After-refusal-no)
+    let k = known (goal.at.hit_rows-requires c).Then-is_done in record {
+      ready = ready OneBit _ _ a.w a.h _ (source_holds (goal.at.hit_rows-requires c).Then-is_done)
           (fitting _ (made_cells _ k.1.0) _ c.element_at-a.ensures);
-      ready_2 = ready OneBit _ _ a.w a.h _ (source_holds (goal.at.hit_rows-requires c).After-refusal-no)
+      ready_2 = ready OneBit _ _ a.w a.h _ (source_holds (goal.at.hit_rows-requires c).Then-is_done)
             (fitting _ (made_cells _ k.1.1) _ c.element_at-b.ensures);
       holds = holds Free OneBit a.w a.h a.source.now _ k.0.sized (omega (arith, k.0.roomy));
     }
@@ -54,19 +54,19 @@ hit_rows-requires c =
 pub returns-then-is_done : goal.returns-then-is_done
 returns-then-is_done c =
     let a = c.args in
-    let k = (known (goal.at.returns-then-is_done c).After-refusal-no).1 in
+    let k = (known (goal.at.returns-then-is_done c).Then-is_done).1 in
     let e = answer_is a.w a.h a.source.now a.hit.now
     a.miss.now (length a.target.now) _ _ c.pair_answer-shape.ensures
-    c.refusal-no.ensures in (
-      e,
-      made_by_lem a.target.now _ _ _ e _ (sym c.is_done.ensures ∙ c.if-is_done.true)
+    c.refusal-no.ensures in record {
+      answer = e;
+      bytes = made_by_lem a.target.now _ _ _ e _ (sym c.is_done.ensures ∙ c.if-is_done.true)
           (hit_given a.hit.now a.miss.now
           (λ j. let l = c.type_inv.hit j in omega arith)
           (λ j. let l = c.type_inv.miss j in omega arith)
           (made_cells _ k.0) (made_cells _ k.1) _ _
           c.element_at-a.ensures c.element_at-b.ensures
-          a.w a.h a.source.now a.target.now _ c.hit_rows.ensures),
-    )
+          a.w a.h a.source.now a.target.now _ c.hit_rows.ensures);
+    }
 
 pub returns : goal.returns
 returns c =

@@ -7,6 +7,7 @@ use Rattle.hostnest.proofs.qik_nesting.Goals as goal
 pub returns : goal.returns
 returns c =
     record {
-      number = λ R f. c.pack_nested.ensures ∙ nest_packed R _ _ _ _ _ _ c.pack.ensures (c.nest-nested.ensures.back R f);
+      number = λ R f. c.pack_nested.ensures
+          ∙ nest_packed R _ _ _ _ _ _ c.pack.ensures (c.nest-nested.ensures.back R f);
       numbers = c.nest-nested.ensures.numbers;
     }

@@ -14,13 +14,13 @@ within c = length_few _ _ c.descriptor_len-n.ensures
 
 pub slice_bounds-carry_out-end-in-1 : goal.slice_bounds-carry_out-end-in-1
 slice_bounds-carry_out-end-in-1 c =
-    sym (length-take-le _ _ (within (goal.at.slice_bounds-carry_out-end-in-1 c).In-1))
+    sym (length-take-le _ _ (within (goal.at.slice_bounds-carry_out-end-in-1 c).After-descriptor_len-n))
 
 pub slice_bounds-carry_out-count : goal.slice_bounds-carry_out-count
-slice_bounds-carry_out-count c = within (goal.at.slice_bounds-carry_out-count c).In-1
+slice_bounds-carry_out-count c = within (goal.at.slice_bounds-carry_out-count c).After-descriptor_len-n
 
 pub slice_bounds-carry_out-start : goal.slice_bounds-carry_out-start
-slice_bounds-carry_out-start c = within (goal.at.slice_bounds-carry_out-start c).In-1
+slice_bounds-carry_out-start c = within (goal.at.slice_bounds-carry_out-start c).After-descriptor_len-n
 
 pub returns-in-0 : goal.returns-in-0
 returns-in-0 c =
@@ -39,5 +39,5 @@ returns-in-2 c =
 
 pub returns-in_default : goal.returns-in_default
 returns-in_default c =
-    let k = c.in_default.in_default-own.rest in
-    flag_other _ _ _ _ _ _ _ k.0.0.1 k.0.1 k.1 _ _ (c.refused.ensures.answer_value, c.refused.ensures.text_after)
+    let k = c.in_default in
+    flag_other _ _ _ _ _ _ _ ? ? ? _ _ (c.refused.ensures.answer_value, c.refused.ensures.text_after)

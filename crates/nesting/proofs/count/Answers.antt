@@ -16,13 +16,13 @@ belongs-k-requires c = omega arith
 pub overflow_add-k : goal.overflow_add-k
 overflow_add-k c =
     omega (
-  arith,
-  c.belongs-k.ensures.1,
-  c.loop-i.invariant.1,
-  count_le
-      (at c.args.labels.now) c.args.r
-      c.loop-i.i,
-)
+      arith,
+      c.belongs-k.ensures.1,
+      c.loop-i.invariant.1,
+      count_le
+          (at c.args.labels.now) c.args.r
+          c.loop-i.i,
+    )
 
 pub overflow_add-i-in-loop-i : goal.overflow_add-i-in-loop-i
 overflow_add-i-in-loop-i c = omega arith

@@ -20,7 +20,8 @@ returns-then-not-sized c = refused_size _ _ _ (sym c.sized.ensures ∙ c.if-not-
 pub returns-then-n-picture_bytes : goal.returns-then-n-picture_bytes
 unfolding told
 returns-then-n-picture_bytes c =
-    refused_source _ _ _ (size_known (goal.at.returns-then-n-picture_bytes c).Else-not-sized) _ c.picture_bytes.ensures
+    refused_source _ _ _ (size_known (goal.at.returns-then-n-picture_bytes c).Else-not-sized) _
+    c.picture_bytes.ensures
     c.if-n-picture_bytes.true
 
 pub overflow_mul-h : goal.overflow_mul-h
@@ -31,11 +32,13 @@ overflow_mul-h c =
 pub returns-then-h-w-gt-MOST_POINTS : goal.returns-then-h-w-gt-MOST_POINTS
 unfolding told
 returns-then-h-w-gt-MOST_POINTS c =
-    refused_points _ _ _ (size_known (goal.at.returns-then-h-w-gt-MOST_POINTS c).Else-not-sized) _ c.picture_bytes.ensures c.if-n-picture_bytes.false
+    refused_points _ _ _ (size_known (goal.at.returns-then-h-w-gt-MOST_POINTS c).Else-not-sized) _
+    c.picture_bytes.ensures c.if-n-picture_bytes.false
     (omega (arith, c.if-h-w-gt-MOST_POINTS.true))
 
 pub returns : goal.returns
 unfolding told
 returns c =
-    frame_passes _ _ _ (size_known (goal.at.returns c).Else-not-sized) _ c.picture_bytes.ensures c.if-n-picture_bytes.false
+    frame_passes _ _ _ (size_known (goal.at.returns c).Else-not-sized) _
+    c.picture_bytes.ensures c.if-n-picture_bytes.false
     (omega (arith, c.if-h-w-gt-MOST_POINTS.false))

@@ -51,16 +51,16 @@ loop-i-smaller c = omega arith
 pub loop-i-preserved : goal.loop-i-preserved
 loop-i-preserved c =
     let l = c.loop-i in let a = c.args in (
-  search rules,
-  omega (arith, c.belongs-k.ensures.1),
-  length-set l.inner l.k _
-      ∙ l.invariant.2,
-  inner_more _ l.k _ l.i l.invariant.3 c.belongs-k.ensures.0,
-  gather_more
-      (at a.labels.now) l.inner l.k _ l.i
-      (omega (arith, l.invariant.2, l.invariant.3, inner_mono (at a.labels.now) l.i a.n l.invariant.0))
-      l.invariant.4 c.belongs-k.ensures.0,
-)
+      search rules,
+      omega (arith, c.belongs-k.ensures.1),
+      length-set l.inner l.k _
+          ∙ l.invariant.2,
+      inner_more _ l.k _ l.i l.invariant.3 c.belongs-k.ensures.0,
+      gather_more
+          (at a.labels.now) l.inner l.k _ l.i
+          (omega (arith, l.invariant.2, l.invariant.3, inner_mono (at a.labels.now) l.i a.n l.invariant.0))
+          l.invariant.4 c.belongs-k.ensures.0,
+    )
 
 pub shape_of-inner : goal.shape_of-inner
 shape_of-inner c = c.loop-i.invariant.2

@@ -10,7 +10,8 @@ use Rattle.nesting.proofs.gather.Given as goal
 
 abbrev pub invariant-loop-i : goal.invariant-loop-i
 invariant-loop-i l =
-    (l.i ≤ l.n) × (l.k ≤ l.i) × (length l.inner ≡ length l.initial.inner) × (l.k ≡ length (inner_of (at l.labels) l.i))
+    (l.i ≤ l.n) × (l.k ≤ l.i) × (length l.inner ≡ length l.initial.inner)
+    × (l.k ≡ length (inner_of (at l.labels) l.i))
     × (take l.k l.inner ≡ inner_of (at l.labels) l.i)
 
 abbrev pub decreases-loop-i : goal.decreases-loop-i

@@ -27,11 +27,11 @@ loop-i-smaller c = omega arith
 pub loop-i-preserved : goal.loop-i-preserved
 loop-i-preserved c =
     let l = c.loop-i in (
-  search rules,
-  omega (arith, c.belongs-k.ensures.1),
-  inner_more _ l.k _ l.i l.invariant.2
-      c.belongs-k.ensures.0,
-)
+      search rules,
+      omega (arith, c.belongs-k.ensures.1),
+      inner_more _ l.k _ l.i l.invariant.2
+          c.belongs-k.ensures.0,
+    )
 
 pub returns : goal.returns
 returns c = inner_all _ _ c.loop-i.i _ (omega arith) c.loop-i.invariant.2

@@ -6,14 +6,13 @@ use Rattle.nesting.proofs.Whole.{gathered, gathered_length, tree_of, next_of, li
 use Rattle.nesting.proofs.list_all.Goals as goal
 
 pub gather-requires : goal.gather-requires
-gather-requires c =
-    (
-      c.requires.labelled.room,
-      (
-        omega (arith, c.requires.labelled.few_points),
-        omega (arith, c.requires.k_value, c.requires.k_bound.0),
-      ),
-    )
+gather-requires c = (
+  c.requires.labelled.room,
+  (
+    omega (arith, c.requires.labelled.few_points),
+    omega (arith, c.requires.k_value, c.requires.k_bound.0),
+  ),
+)
 
 pub slice_bounds-inner-end : goal.slice_bounds-inner-end
 slice_bounds-inner-end c = omega (arith, c.requires.k_bound.0, c.gather.auto.inner)

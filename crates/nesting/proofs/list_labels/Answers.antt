@@ -21,11 +21,11 @@ use Rattle.nesting.proofs.list_labels.Goals.{After-inner_regions-k, After-region
 -- the regions are as many as there are
 few : (c : After-inner_regions-k) → c.inner_regions-k.result + 1 ≤ 65536
 few c = omega (
-      arith,
-      c.inner_regions-k.ensures,
-      inner_le (at c.args.labels.now) c.args.n,
-      c.requires.few_points,
-    )
+  arith,
+  c.inner_regions-k.ensures,
+  inner_le (at c.args.labels.now) c.args.n,
+  c.requires.few_points,
+)
 
 as_many : (c : After-inner_regions-k) → let a = c.args in
     c.inner_regions-k.result + 1 ≡ regions_of (at a.labels.now) a.n

@@ -14,10 +14,12 @@ pub returns-then-len-regions : goal.returns-then-len-regions
 unfolding told
 returns-then-len-regions c =
     let a = c.args in
-    refused_room a.regions a.len (omega (arith, c.if-regions-gt-MOST_REGIONS.false)) (omega (arith, c.if-len-regions.true))
+    refused_room a.regions a.len (omega (arith, c.if-regions-gt-MOST_REGIONS.false))
+    (omega (arith, c.if-len-regions.true))
 
 pub returns : goal.returns
 unfolding told
 returns c =
     let a = c.args in
-    regions_pass a.regions a.len (omega (arith, c.if-regions-gt-MOST_REGIONS.false)) (omega (arith, c.if-len-regions.false))
+    regions_pass a.regions a.len (omega (arith, c.if-regions-gt-MOST_REGIONS.false))
+    (omega (arith, c.if-len-regions.false))

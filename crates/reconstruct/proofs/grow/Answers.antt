@@ -19,10 +19,11 @@ help-requires c =
 
 pub sweep-busy-requires : goal.sweep-busy-requires
 sweep-busy-requires c =
-    (
-      c.requires.room,
-      same_room c.args.r _ _ (c.help.ensures.same_length ∙ c.loop-busy.invariant.1.same_length) c.requires.room_2,
-    )
+    record {
+      room = c.requires.room;
+      room_2 = same_room c.args.r _ _ (c.help.ensures.same_length ∙ c.loop-busy.invariant.1.same_length)
+          c.requires.room_2;
+    }
 
 pub loop-busy-smaller : goal.loop-busy-smaller
 loop-busy-smaller c =

@@ -31,4 +31,5 @@ returns c =
       arith,
       c.slice_known-1.given i,
     )) c.requires.holds_3.long c.copy_picture.ensures
-    _ _ _ c.is_square.ensures c.row_bytes-n.ensures c.spare_bits-u.ensures c.grow.ensures.grew c.grow.ensures.still
+    _ _ _ c.is_square.ensures c.row_bytes-n.ensures c.spare_bits-u.ensures c.grow.ensures.grew
+    c.grow.ensures.still

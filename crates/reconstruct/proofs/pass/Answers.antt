@@ -22,11 +22,11 @@ settle_cell-b-requires c =
     let a = c.args in
     let l = c.loop-i in
     let k = c.lesser-k.ensures in
-    let f = c.turned-j.ensures.1 in (
-      cell_fits a.r (length a.mask.now) a.y _ _ c.requires.room c.requires.y_lt_h f k,
-      cell_fits a.r _ a.y _ _ (same_room a.r _ _ l.invariant.1.grew.same_length c.requires.room_2)
-          c.requires.y_lt_h f k,
-    )
+    let f = c.turned-j.ensures.1 in record {
+      fits = cell_fits a.r (length a.mask.now) a.y _ _ c.requires.room c.requires.y_lt_h f k;
+      fits_2 = cell_fits a.r _ a.y _ _ (same_room a.r _ _ l.invariant.1.grew.same_length c.requires.room_2)
+          c.requires.y_lt_h f k;
+    }
 
 pub loop-i-preserved : goal.loop-i-preserved
 loop-i-preserved c =
@@ -38,7 +38,7 @@ loop-i-preserved c =
     let room = same_room a.r _ _ l.invariant.1.grew.same_length c.requires.room_2 in
     let d : Cell = record {
       square = a.r.square;
-      (goal.at.loop-i-preserved c).After-lesser-k = a.r.n;
+      n = a.r.n;
       u = a.r.u;
       h = a.r.h;
       y = a.y;

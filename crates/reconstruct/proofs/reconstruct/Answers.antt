@@ -32,11 +32,11 @@ make-requires c =
 pub returns-then-is_done : goal.returns-then-is_done
 returns-then-is_done c =
     let a = c.args in
-    let e = c.refusal-no.ensures in (
-      e,
-      made_by_lem a.target.now _ _ _ e _ (sym c.is_done.ensures ∙ c.if-is_done.true)
-          c.make.ensures,
-    )
+    let e = c.refusal-no.ensures in record {
+      answer = e;
+      bytes = made_by_lem a.target.now _ _ _ e _ (sym c.is_done.ensures ∙ c.if-is_done.true)
+          c.make.ensures;
+    }
 
 pub returns : goal.returns
 returns c =

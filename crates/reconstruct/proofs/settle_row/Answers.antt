@@ -6,13 +6,11 @@ use Rattle.reconstruct.proofs.settle_row.Goals as goal
 
 pub pass-requires-then-pass : goal.pass-requires-then-pass
 pass-requires-then-pass c =
-    (
-      c.requires.y_lt_h,
-      (
-        c.requires.room,
-        same_room c.args.r _ _ c.pass.ensures.grew.same_length c.requires.room_2,
-      ),
-    )
+    record {
+      y_lt_h = c.requires.y_lt_h;
+      room = c.requires.room;
+      room_2 = same_room c.args.r _ _ c.pass.ensures.grew.same_length c.requires.room_2;
+    }
 
 pub shape_of-t-then-pass : goal.shape_of-t-then-pass
 shape_of-t-then-pass c =

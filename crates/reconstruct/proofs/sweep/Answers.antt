@@ -11,13 +11,11 @@ loop-i-init c = (search rules, visit_none _ _ _ _ (λ v z s. omega (arith, s.1.1
 
 pub settle_row-b-requires : goal.settle_row-b-requires
 settle_row-b-requires c =
-    (
-      c.turned-y.ensures.1,
-      (
-        c.requires.room,
-        same_room c.args.r _ _ c.loop-i.invariant.1.grew.same_length c.requires.room_2,
-      ),
-    )
+    record {
+      y_lt_h = c.turned-y.ensures.1;
+      room = c.requires.room;
+      room_2 = same_room c.args.r _ _ c.loop-i.invariant.1.grew.same_length c.requires.room_2;
+    }
 
 pub loop-i-preserved : goal.loop-i-preserved
 loop-i-preserved c =

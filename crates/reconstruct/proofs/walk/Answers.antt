@@ -9,20 +9,18 @@ loop-y-init c = (search rules, grew_none _ _ _)
 
 pub settle_row-b-requires : goal.settle_row-b-requires
 settle_row-b-requires c =
-    (
-      omega arith,
-      (
-        c.requires.room,
-        same_room c.args.r _ _ c.loop-y.invariant.1.same_length c.requires.room_2,
-      ),
-    )
+    record {
+      y_lt_h = omega arith;
+      room = c.requires.room;
+      room_2 = same_room c.args.r _ _ c.loop-y.invariant.1.same_length c.requires.room_2;
+    }
 
 pub next_row-y-requires : goal.next_row-y-requires
 next_row-y-requires c =
     omega (
-  arith,
-  c.requires.room.few_bins,
-)
+      arith,
+      c.requires.room.few_bins,
+    )
 
 pub loop-y-smaller : goal.loop-y-smaller
 loop-y-smaller c =

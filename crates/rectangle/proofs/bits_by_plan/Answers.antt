@@ -13,7 +13,7 @@ pub bits-requires : goal.bits-requires
 bits-requires c =
     record {
       ready = subst (λ o. Ready OneBit (length c.args.s.now) o.h c.args.w c.args.h o)
-      (sym c.outline_of.ensures) c.requires.ready;
+          (sym c.outline_of.ensures) c.requires.ready;
       holds = c.requires.holds;
     }
 

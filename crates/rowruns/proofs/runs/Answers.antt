@@ -13,11 +13,7 @@ loop-a-init c =
       search rules,
       search rules,
       search rules,
-      run_one a.grows a.n a.h p.some_bytes a.t.now (λ i. omega (
-        arith,
-        c.type_inv.t i,
-      ))
-          p.long,
+      run_one a.grows a.n a.h p.some_bytes a.t.now (λ i. omega (arith, c.type_inv.t i)) p.long,
     )
 
 pub loop-a-preserved : goal.loop-a-preserved
@@ -31,10 +27,7 @@ loop-a-preserved c =
       omega (arith, d, c.loop-a-test.true),
       ap length e ∙ length_piece a.grows 0 _ _ l.t ∙ l.invariant.2,
       run_more a.grows a.n a.h p.some_bytes a.t.now
-          (λ i. omega (
-            arith,
-            c.slice_known-1.given i,
-          )) p.long l.a _ l.t _ l.invariant.0
+          (λ i. search rules) p.long l.a _ l.t _ l.invariant.0
           (omega (arith, d)) l.invariant.3 e (λ i. omega (arith, c.type_inv.t i)),
     )
 
@@ -47,5 +40,5 @@ returns c =
     let p = c.requires in
     let l = c.loop-a in
     run_all a.grows a.n a.h p.some_bytes a.t.now
-    (λ i. omega (arith, c.slice_known-1.given i)) p.long l.a a.k l.t l.invariant.3
+    (λ i. search rules) p.long l.a a.k l.t l.invariant.3
     (omega (arith, l.invariant.1, c.loop-a-test.false))

@@ -13,21 +13,29 @@ use Rattle.spectrum.proofs.Counted.{next_fewer, count_is, last_is, counts_all}
 use Rattle.spectrum.proofs.count_sides.Goals as goal
 
 pub survivors-here-requires : goal.survivors-here-requires
-survivors-here-requires c = ((omega arith, omega arith), (c.requires.holds, c.requires.t_len))
+survivors-here-requires c =
+    record {
+      le_k = (omega arith, omega arith);
+      holds = c.requires.holds;
+      t_len = c.requires.t_len;
+    }
 
 pub loop-i-init : goal.loop-i-init
-loop-i-init c =
-    (
-      search rules,
-      search rules,
-      c.survivors-here.auto.t ∙ c.requires.t_len,
-      c.survivors-here.ensures,
-      over_none _ _,
-    )
+loop-i-init c = (
+  search rules,
+  search rules,
+  c.survivors-here.auto.t ∙ c.requires.t_len,
+  c.survivors-here.ensures,
+  over_none _ _,
+)
 
 pub survivors-next-requires : goal.survivors-next-requires
 survivors-next-requires c =
-    ((omega arith, omega (arith, c.loop-i-test.true)), (c.requires.holds, c.loop-i.invariant.2))
+    record {
+      le_k = (omega arith, omega (arith, c.loop-i-test.true));
+      holds = c.requires.holds;
+      t_len = c.loop-i.invariant.2;
+    }
 
 pub overflow_sub-counts : goal.overflow_sub-counts
 overflow_sub-counts c =

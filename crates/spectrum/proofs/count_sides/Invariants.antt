@@ -16,7 +16,8 @@ abbrev pub invariant-loop-i : goal.invariant-loop-i
 invariant-loop-i l =
     (l.i ≤ 31) × (length l.counts ≡ length l.initial.counts) × (length l.t ≡ picture_bytes OneBit l.w l.h)
     × (l.here ≡ defined.survivors (frame l.w l.h) (value_at OneBit l.source l.w) (l.i + 1))
-    × (l.counts ≡ firsts (λ i. count_at (frame l.w l.h) (value_at OneBit l.source l.w) (i + 1)) l.i ++ drop l.i l.initial.counts)
+    × (l.counts ≡ firsts (λ i. count_at (frame l.w l.h) (value_at OneBit l.source l.w) (i + 1)) l.i
+    ++ drop l.i l.initial.counts)
 
 abbrev pub decreases-loop-i : goal.decreases-loop-i
 decreases-loop-i l = 31 - l.i

@@ -1,7 +1,5 @@
 -- Nothing is written before all is judged: a refusal returns with list and scratch as they were.
--- Where nothing is refused (`known`) the picture is admitted, list and scratch are long enough, and `make`
--- does
--- the rest.
+-- Where nothing is refused (`known`) the picture is admitted, list and scratch are long enough: `make`.
 use Prim.Native.Nat.{◌/◌, ◌≤◌}
 use mathlib.Core.Path.{sym, ◌∙◌}
 use native.Mathlib.Nat.{le_of_eq}
@@ -40,13 +38,11 @@ returns-then-is_done c =
     _ _
     c.list_room-list.ensures c.refusal-no.ensures in
     let done = sym c.is_done.ensures ∙ c.if-is_done.true in
-    (
-      e,
-      (
-        made_by_lem a.counts.now _ _ _ e _ done c.make.ensures.counts,
-        made_by_lem a.scratch.now _ _ _ e _ done c.make.ensures.scratch,
-      ),
-    )
+    record {
+      answer = e;
+      counts = made_by_lem a.counts.now _ _ _ e _ done c.make.ensures.counts;
+      scratch = made_by_lem a.scratch.now _ _ _ e _ done c.make.ensures.scratch;
+    }
 
 pub returns : goal.returns
 returns c =

@@ -14,11 +14,7 @@ counted : (c : After-count) → let a = c.args in
     c.count.result ≡ survivors (frame a.w a.h) (value_at OneBit a.source.now a.w) a.k
 counted c = let a = c.args in
     c.count.ensures
-    ∙ survivors_counted a.w a.h a.k a.source.now a.t.now _ _ _
-    (λ i. omega (
-      arith,
-      c.slice_known-1.given i,
-    )) c.requires.t_len
+    ∙ survivors_counted a.w a.h a.k a.source.now a.t.now _ _ _ (λ i. grind arith) c.requires.t_len
     c.copy_picture.ensures c.sweep.ensures c.sweep-2.ensures
 
 pub copy_picture-requires : goal.copy_picture-requires

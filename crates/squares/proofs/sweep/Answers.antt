@@ -3,6 +3,7 @@
 use Prim.Native.Nat.{◌*◌}
 use mathlib.Core.Path.{ap}
 use native.Mathlib.Omega.{arith}
+use borrow.Author.Rules.{rules}
 use Rattle.squares.proofs.Made.{square_made}
 use Rattle.squares.proofs.sweep.Goals as goal
 
@@ -30,8 +31,5 @@ returns c =
     let a = c.args in
     let p = c.requires in
     square_made a.grows a.k a.w a.h _ p.some_pings p.some_cells c.row_bytes-n.ensures
-    a.t.now _ _ (λ i. omega (
-      arith,
-      c.slice_known-1.given i,
-    )) p.long
+    a.t.now _ _ (λ i. search rules) p.long
     c.run_rows.ensures c.runs.ensures

@@ -1,6 +1,7 @@
 -- Nothing is written before all is judged: a refusal returns with both buffers as they were.
 -- Where nothing is refused the picture is admitted and the element is the descriptor's (`judged`),
 -- and apply does the rest.
+use mathlib.Core.Path.{◌≡◌}
 use Rattle.weighted.proofs.Known.{Known, known, answer_is, room_holds, element_ready}
 use Rattle.weighted.proofs.Known.{small, heights_start, once_left, twice_left}
 use Rattle.apply.proofs.Read.{parts_read}
@@ -72,15 +73,13 @@ returns-then-is_done c =
     let q = found (goal.at.returns-then-is_done c).After-rows_at-words in
     let n = c.cells_end-at.ensures in
     let g = c.is_growing-grows.ensures in
-    (
-      k.given,
-      (
-        twice_left k _ q _ n (λ i. let l = c.type_inv.element i in omega arith)
-            a.target.now _ _ (grows_of a.first) g c.weighted_twice.ensures.bytes,
-        once_left k _ q _ n (λ i. let l = c.type_inv.element i in omega arith)
-            a.scratch.now _ _ (grows_of a.first) g c.weighted_twice.ensures.middle,
-      ),
-    )
+    record {
+      answer = k.given;
+      bytes = twice_left k _ q _ n (λ i. let l = c.type_inv.element i in omega arith)
+            a.target.now _ _ (grows_of a.first) g c.weighted_twice.ensures.bytes;
+      middle = once_left k _ q _ n (λ i. let l = c.type_inv.element i in omega arith)
+            a.scratch.now _ _ (grows_of a.first) g c.weighted_twice.ensures.middle;
+    }
 
 pub returns : goal.returns
 returns c =

@@ -5,6 +5,7 @@ use Rattle.windows.proofs.Places.{row_joined}
 use Rattle.windows.specs.Steps.Places.{blocks_of}
 use lib.ListN.{length}
 use native.Mathlib.Omega.{arith}
+use borrow.Author.Rules.{rules}
 use Rattle.windows.proofs.join_row.Goals as goal
 
 pub returns : goal.returns
@@ -12,7 +13,7 @@ returns c =
     let a = c.args in
     let g = c.gather in record {
       t_after = row_joined a.grows a.b.now _ a.at.now a.t.now _ (blocks_of (length a.t.now))
-          (λ i. let f = c.slice_known-1.given i in omega arith) (omega arith) c.requires.t_in_bounds g.ensures
+          (λ i. search rules) (omega arith) c.requires.t_in_bounds g.ensures
           c.join_bytes.ensures;
       b_after = g.ensures;
     }

@@ -7,13 +7,15 @@ use Rattle.work.proofs.say.Goals as goal
 pub returns-then-number-eq8 : goal.returns-then-number-eq8
 returns-then-number-eq8 c =
     let a = c.args in
-    says_room a.no a.text.now _ c.tell-t.ensures c.if-number-eq8.true
+    let p = says_room a.no a.text.now _ c.tell-t.ensures c.if-number-eq8.true in
+    record { value = p.0; text_after = p.1 }
 
 pub returns-then-text-lt-MOST_REFUSED : goal.returns-then-text-lt-MOST_REFUSED
 returns-then-text-lt-MOST_REFUSED c =
     let a = c.args in
-    says_short a.no a.text.now _ c.tell-t.ensures
-    c.if-number-eq8.false c.if-text-lt-MOST_REFUSED.true
+    let p = says_short a.no a.text.now _ c.tell-t.ensures
+    c.if-number-eq8.false c.if-text-lt-MOST_REFUSED.true in
+    record { value = p.0; text_after = p.1 }
 
 pub put_refused-requires : goal.put_refused-requires
 put_refused-requires c =
@@ -24,7 +26,8 @@ put_refused-requires c =
 pub returns : goal.returns
 returns c =
     let a = c.args in
-    says_line a.no
+    let p = says_line a.no
     a.text.now _ c.tell-t.ensures
     c.if-number-eq8.false c.if-text-lt-MOST_REFUSED.false _ _
-    c.put_refused.ensures.value c.put_refused.ensures.t_after
+    c.put_refused.ensures.value c.put_refused.ensures.t_after in
+    record { value = p.0; text_after = p.1 }

@@ -12,21 +12,21 @@ use Rattle.work.proofs.work_out.Goals as goal
 use Rattle.work.proofs.work_out.Goals.{After-picture_bytes-n}
 
 lent : (c : After-picture_bytes-n) → let a = c.args in
-    Lent a.file.now a.source.now a.result.now a.scratch.now
+    Lent a.file.now a.source.now a.res.now a.scratch.now
     a.text.now c.read_ech-head.result
     c.depth_of-depth.result
     c.read_ech-head.new.target c.picture_bytes-n.result
 lent c = record {
-      bytes = λ i. omega (
-        arith,
-        c.type_inv.file i,
-      );
-      taken = c.requires.taken;
-      given = c.read_ech-head.ensures.given_back;
-      deep = c.depth_of-depth.ensures;
-      read = c.read_ech-head.ensures.target_after;
-      size = c.picture_bytes-n.ensures;
-    }
+  bytes = λ i. omega (
+    arith,
+    c.type_inv.file i,
+  );
+  taken = c.requires.taken;
+  given = c.read_ech-head.ensures.given_back;
+  deep = c.depth_of-depth.ensures;
+  read = c.read_ech-head.ensures.target_after;
+  size = c.picture_bytes-n.ensures;
+}
 
 part : (c : After-picture_bytes-n)
     → c.picture_bytes-n.result ≤ length c.read_ech-head.new.target
@@ -34,25 +34,26 @@ part c = part_fits (lent c) c.read_ech-head.auto.target
 
 pub slice_bounds-operate-end-2 : goal.slice_bounds-operate-end-2
 slice_bounds-operate-end-2 c =
-    sym (length-take-le _ _ (part (goal.at.slice_bounds-operate-end-2 c).After-depth_of-depth))
+    sym (length-take-le _ _ (part (goal.at.slice_bounds-operate-end-2 c).After-picture_bytes-n))
 
 pub operate-requires : goal.operate-requires
 operate-requires c =
     record {
-      holds = source_held (lent (goal.at.operate-requires c).After-depth_of-depth);
-      holds_2 = result_held (lent (goal.at.operate-requires c).After-depth_of-depth);
-      holds_3 = scratch_held (lent (goal.at.operate-requires c).After-depth_of-depth);
+      holds = source_held (lent (goal.at.operate-requires c).After-picture_bytes-n);
+      holds_2 = result_held (lent (goal.at.operate-requires c).After-picture_bytes-n);
+      holds_3 = scratch_held (lent (goal.at.operate-requires c).After-picture_bytes-n);
       fitting = c.requires.fitting;
     }
 
 pub put_text-requires : goal.put_text-requires
 put_text-requires c =
     let a = c.args in
-    text_taken (lent (goal.at.put_text-requires c).After-slice_known-5-1) (shape_by a.o a.words.now) a.op _ _ (c.operate.ensures.res_after, c.operate.ensures.scratch_after)
-    c.operate.auto.res
+    let p = text_taken (lent (goal.at.put_text-requires c).After-picture_bytes-n) (shape_by a.o a.words.now) a.op _ _ (c.operate.ensures.res_after, c.operate.ensures.scratch_after)
+    c.operate.auto.res in
+    record { holds = p.0; kind_in_bounds = p.1 }
 
 pub returns : goal.returns
 returns c =
     let a = c.args in
-    worked_out (lent (goal.at.returns c).After-slice_known-5-1) (shape_by a.o a.words.now)
+    worked_out (lent (goal.at.returns c).After-picture_bytes-n) (shape_by a.o a.words.now)
     a.op _ _ (c.operate.ensures.res_after, c.operate.ensures.scratch_after) _ _ (c.put_text.ensures.value, c.put_text.ensures.t_after)
