@@ -105,10 +105,7 @@ fn run(
     element: &[u8],
     other: &[u8],
 ) -> io::Result<()> {
-    show::answered(
-        rt,
-        call(head, target, scratch, source, element, other),
-    )?;
+    show::answered(rt, call(head, target, scratch, source, element, other))?;
     show::buffer(rt, b"target", target)?;
     show::buffer(rt, b"scratch", scratch)
 }

@@ -17,7 +17,8 @@ use Rattle.picture.proofs.Bytes.{bytes_long, bytes_value, value_small}
 use Rattle.picture.proofs.Points.{bytes_same}
 use Rattle.element.specs.Shape.{Shape}
 use Rattle.element.specs.Descriptor.{shape_in, weighted_in}
-use Rattle.morphology.specs.Operations.{Change, flat, erode_by, dilate_by, open_by, close_by, opening, closing}
+use Rattle.morphology.specs.Operations.{Change, flat, erode_by, dilate_by, open_by, close_by, opening}
+use Rattle.morphology.specs.Operations.{closing}
 use Rattle.morphology.specs.Weighted.{lower, raise, open_weighted, close_weighted}
 use Rattle.morphology.specs.Order.{Alike, Bounded, Paired}
 use Rattle.morphology.proofs.Order.{flat_paired, opening_within, erode_bounded, erode_alike, dilate_alike}

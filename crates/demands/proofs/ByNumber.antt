@@ -113,7 +113,8 @@ module _ (element : List ℕ) (k : ℕ) (chain : List ℕ) where
   verdict = check_of (shape_in element) (links_in k chain)
 
   pub split_numbered : Numbered (split_tests element k chain)
-  split_numbered = both_numbered (check_tests element k chain) _ (check_numbered element k chain) (lit≤ tt, tt)
+  split_numbered = both_numbered (check_tests element k chain) _ (check_numbered element k chain)
+      (lit≤ tt, tt)
 
   pub check_bare : bare (checked element k chain) ≡ refuse (split_tests element k chain) (plain 0)
   unfolding checked

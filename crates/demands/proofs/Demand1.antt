@@ -122,7 +122,8 @@ hit_or_miss_kept κs a r e p =
 
 -- the weighted operations
 pub weighted_erode_exactly : Every 3 weighted-erode-kinds.ps weighted-erode-kinds.r
-    weighted-erode-reads.Learnt (λ κs a r e. let c = weighted_call κs a e in Exactly (weighted_once c) (told r))
+    weighted-erode-reads.Learnt
+    (λ κs a r e. let c = weighted_call κs a e in Exactly (weighted_once c) (told r))
 weighted_erode_exactly κs a r e p = let c = weighted_call κs a e in
     exactly_of (weighted_once c) (told r) (weighted_tests_numbered c (length c.before)) p.0
 

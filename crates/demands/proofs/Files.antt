@@ -46,7 +46,8 @@ unfolding write_target unless_refused
 file_is kind w h s t after d e =
     ap (take (file_length kind w h))
     (e ∙ ap (λ b. cond b (file_of kind w h s ++ drop (file_length kind w h) t) t) d)
-    ∙ take_at (file_of kind w h s) (drop (file_length kind w h) t) (file_length kind w h) (file_long kind w h s)
+    ∙ take_at (file_of kind w h s) (drop (file_length kind w h) t) (file_length kind w h)
+    (file_long kind w h s)
 
 -- the picture in the bytes of a source is bounded; written, it is read back, and its padding is 0
 module _ (kind w h : ℕ) (s u : List ℕ) (bytes : Bytes s) (some : 1 ≤ w) where

@@ -17,7 +17,8 @@ use Rattle.text.specs.Text.{refused_line}
 use Rattle.work.specs.declared.Operation.{Operation}
 use Rattle.job.specs.Job.{letter_of, operation_of, element_in, file_in, job_answer}
 use Rattle.work.specs.Work.{text_in}
-use Rattle.work.specs.Prints.{most_refused, refusal_of, printed, over, picture_after, result_after, scratch_after}
+use Rattle.work.specs.Prints.{most_refused, refusal_of, printed, over, picture_after, result_after}
+use Rattle.work.specs.Prints.{scratch_after}
 use Rattle.job.proofs.run_job.Kinds as kinds
 use Rattle.job.proofs.run_job.Reads as reads
 use Rattle.demands.specs.Demands.{Every, Exactly, Kept}

@@ -2,7 +2,7 @@
 use Prim.Native.Nat.{ℕ, ◌≤◌, ◌<◌}
 use mathlib.Core.Path.{◌≡◌, sym, ap, ◌∙◌}
 use mathlib.Core.Bool.{false}
-use mathlib.Core.List.{List, ◌∷◌}
+use mathlib.Core.List.{List, [], ◌∷◌}
 use native.Mathlib.Omega.{arith}
 use Rattle.answer.specs.declared.Told.{Told}
 use Rattle.answer.specs.Answer.{plain, is_done}
@@ -23,6 +23,7 @@ use Rattle.demands.specs.Demands.{Exactly, Kept, Shows}
 
 -- the first test that holds has a number
 pub first_some : (ts : List Test) (n : ℕ) → Numbered ts → FirstHolds ts n → 0 < n
+first_some [] n some f = elim f [ ]
 first_some (t ∷ ts) n some here = some.0
 first_some (t ∷ ts) n some (later f) = first_some ts n some.1 f
 

@@ -42,7 +42,8 @@ use Rattle.chain.specs.Reading.{counted, chain_tests, check_tests, links_in, che
 use Rattle.finder.specs.Finder.{is_there, found_at}
 use Rattle.chain.proofs.Checking.{some_links}
 use Rattle.finder.proofs.Finding.{both_long, in_first_lem, in_second_lem}
-use Rattle.chained.specs.Run.{run_answer, eroded, dilated, in_first, in_second, holding, first_after, second_after}
+use Rattle.chained.specs.Run.{run_answer, eroded, dilated, in_first, in_second, holding, first_after}
+use Rattle.chained.specs.Run.{second_after}
 use Rattle.chained.specs.Steps.Buffers.{results_by}
 use Rattle.chained.proofs.Results.{result_bounded}
 use Rattle.chained.proofs.Buffers.{own_bytes, odd_last, even_last}
@@ -143,7 +144,8 @@ module _ (depth : Depth) (w h : ℕ) (source element : List ℕ) (k : ℕ) (chai
       Y : Told
       Y = refuse (room_tests depth w h 0 room) (plain 0)
 
-      by : (b : Bool) → is_done (checked element k chain) ≡ b → cond b Y (checked element k chain) ≡ split_at e
+      by : (b : Bool) → is_done (checked element k chain) ≡ b → cond b Y (checked element k chain)
+          ≡ split_at e
           → checked element k chain ≡ split_at e
       by true d q = absurd (not_room (ltb room (0 + picture_bytes depth w h)) q)
       by false d q = q
@@ -269,7 +271,8 @@ module _ (depth : Depth) (w h : ℕ) (source element : List ℕ) (k : ℕ)
           ≡ swept_by grows flat (top depth) (frame w h)
           (shape_in element) (value_at depth source w) p.x p.y
       by C none true =
-          accepted_dilated (shape_in element) (links_in k chain) C none (frame w h) (value_at depth source w) p i
+          accepted_dilated (shape_in element) (links_in k chain) C none (frame w h) (value_at depth source w)
+          p i
       by C none false =
           accepted_eroded (shape_in element) (links_in k chain) C none (top depth)
           (frame w h) (value_at depth source w) p i

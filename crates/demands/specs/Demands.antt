@@ -45,5 +45,6 @@ ShowsSet tests w h bytes A =
 abbrev pub Every : (n : ℕ) (ps : List (ParamKind n)) (r : ResultKind n) → Out n ps r
     → ((κs : Lfts n) → Dens κs ps → (res_t r κs).Denot → AtExit (ended_of n ps r) κs → Type 0) → Type 0
 Every n ps r Allowed P =
-    (κs : Lfts n) (a : Dens κs ps) (x : (res_t r κs).Denot) (e : AtExit (ended_of n ps r) κs) → Allowed κs a x e
+    (κs : Lfts n) (a : Dens κs ps) (x : (res_t r κs).Denot) (e : AtExit (ended_of n ps r) κs)
+    → Allowed κs a x e
     → P κs a x e

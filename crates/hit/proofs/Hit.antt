@@ -75,7 +75,8 @@ module _ (s : List ℕ) (w h : ℕ) (hit : Outline) (hits : List ℕ)
   abbrev over : Task
   over = record { over = true; grows = false }
 
-  pub hit_row_lem : (t u v : List ℕ) → t ≡ bit_row as_is s w h hit hits y → u ≡ bit_row over s w h miss misses y
+  pub hit_row_lem : (t u v : List ℕ) → t ≡ bit_row as_is s w h hit hits y
+      → u ≡ bit_row over s w h miss misses y
       → v ≡ zip_in bit_and t u
       → v ≡ hit_row s w h hit hits miss misses y
   unfolding hit_row hit_at hit_miss bit_row swept_bits faced

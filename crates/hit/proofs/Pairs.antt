@@ -42,7 +42,8 @@ module _ (d : List ℕ) (m : cells_made d ≡ true) (e : Element) (q : e ≡ ele
 module _ (hit miss : List ℕ) (b : Bytes hit) (b' : Bytes miss)
     (m : cells_made hit ≡ true) (m' : cells_made miss ≡ true) (e e' : Element)
     (q : e ≡ element_of hit) (q' : e' ≡ element_of miss) where
-  pub overlap_is : (v : Bool) → v ≡ shared (shape_of e) (shape_of e') → v ≡ shared (shape_in hit) (shape_in miss)
+  pub overlap_is : (v : Bool) → v ≡ shared (shape_of e) (shape_of e')
+      → v ≡ shared (shape_in hit) (shape_in miss)
   unfolding shape_of shape_in element_of
   overlap_is v ev =
       ev ∙ ap₂ (λ (e : Element) (e' : Element). shared (shape_of e) (shape_of e')) q q'

@@ -104,7 +104,8 @@ module _ (job p r m t : List ℕ) where
             arith,
             most_few (depth_of (kind_of (file_in job))) (pings_of (file_in job))
                 (bins_of (file_in job)) (reported_kind (file_in job)),
-            lines_short (depth_of (kind_of (file_in job))) (pings_of (file_in job)) (bins_of (file_in job)) high,
+            lines_short (depth_of (kind_of (file_in job))) (pings_of (file_in job)) (bins_of (file_in job))
+                high,
           ))))
           ∙ sym (ap (λ b. cond b (plain 8) (cond (ltb (length t) long) (plain 8) (plain 0)))
           (le-ltb (shortest p r m) (0 + n) (omega arith)))

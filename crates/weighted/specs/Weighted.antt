@@ -28,4 +28,5 @@ weighted_answer w h source descriptor room = refuse (weighted_tests w h source d
 abbrev pub weighted_left : (Frame → Shape → Picture → Picture) → ℕ → ℕ → List ℕ → List ℕ → ℕ → List ℕ → List ℕ
 weighted_left operation w h source descriptor room buffer =
     unless_refused (weighted_answer w h source descriptor room) buffer
-    (written EightBit (operation (frame w h) (weighted_in descriptor) (value_at EightBit source w)) w h buffer)
+    (written EightBit (operation (frame w h) (weighted_in descriptor) (value_at EightBit source w)) w h
+    buffer)

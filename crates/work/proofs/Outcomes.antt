@@ -26,7 +26,8 @@ module _ (a : Told) (op : Operation) (d f p r m t : List ℕ) (said : Answer) (e
       let q : is_done a ≡ true = ap is_done (sym ea) ∙ e in
       record {
         answer = ea;
-        length_is = o.length_is ∙ sym (ap (λ b. length (cond b (text_in op d f) (refusal_of a (length t)))) q);
+        length_is = o.length_is
+            ∙ sym (ap (λ b. length (cond b (text_in op d f) (refusal_of a (length t)))) q);
         picture = made_by_lem p _ a (told said) ea p' e o.picture;
         result = made_by_lem r _ a (told said) ea r' e o.result;
         scratch = made_by_lem m _ a (told said) ea m' e o.scratch;

@@ -31,7 +31,8 @@ over l t = l ++ drop (length l) t
 
 -- the work buffers: the file's picture, the result, the middle picture
 unfoldable pub picture_after : Told → List ℕ → List ℕ → List ℕ
-picture_after a f p = unless_refused a p (written (depth_of (kind_of f)) (picture_of f) (pings_of f) (bins_of f) p)
+picture_after a f p =
+    unless_refused a p (written (depth_of (kind_of f)) (picture_of f) (pings_of f) (bins_of f) p)
 
 unfoldable pub result_after : Told → Operation → List ℕ → List ℕ → List ℕ → List ℕ
 result_after a op d f r =
@@ -39,7 +40,8 @@ result_after a op d f r =
 
 unfoldable pub scratch_after : Told → Operation → List ℕ → List ℕ → List ℕ → List ℕ
 scratch_after a op d f m =
-    unless_refused a m (middle_in op (depth_of (kind_of f)) (pings_of f) (bins_of f) (shape_in d) (picture_of f) m)
+    unless_refused a m (middle_in op (depth_of (kind_of f)) (pings_of f) (bins_of f) (shape_in d)
+    (picture_of f) m)
 
 -- all of it: the answer a to the operation op,
 -- the element d and the file f, with p, r, m and t before and p', r', m' and t' after

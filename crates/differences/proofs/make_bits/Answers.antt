@@ -32,7 +32,8 @@ returns-in-Black c =
           (twice_read OneBit a.w a.h B a.source.now true _ a.target.now c.bits_twice-in-Black.ensures.bytes)
           (itself OneBit a.w a.h a.source.now)
           c.bits_twice-in-Black.ensures.bytes c.subtract-in-Black.ensures);
-      middle = middle_found a.which Black q OneBit a.w a.h B _ a.scratch.now _ c.bits_twice-in-Black.ensures.middle;
+      middle = middle_found a.which Black q OneBit a.w a.h B _ a.scratch.now _
+          c.bits_twice-in-Black.ensures.middle;
     }
 
 pub returns-in-Gradient : goal.returns-in-Gradient

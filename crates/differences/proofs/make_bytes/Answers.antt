@@ -29,10 +29,12 @@ returns-in-Black c =
     record {
       bytes = made_found a.which Black q EightBit a.w a.h B _ a.target.now _
           (less_read EightBit a.w a.h _ _ _ _ a.source.now a.target.now _ _
-          (twice_read EightBit a.w a.h B a.source.now true _ a.target.now c.bytes_twice-in-Black.ensures.bytes)
+          (twice_read EightBit a.w a.h B a.source.now true _ a.target.now
+          c.bytes_twice-in-Black.ensures.bytes)
           (itself EightBit a.w a.h a.source.now)
           c.bytes_twice-in-Black.ensures.bytes c.subtract-in-Black.ensures);
-      middle = middle_found a.which Black q EightBit a.w a.h B _ a.scratch.now _ c.bytes_twice-in-Black.ensures.middle;
+      middle = middle_found a.which Black q EightBit a.w a.h B _ a.scratch.now _
+          c.bytes_twice-in-Black.ensures.middle;
     }
 
 pub returns-in-Gradient : goal.returns-in-Gradient

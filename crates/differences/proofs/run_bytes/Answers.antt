@@ -60,13 +60,13 @@ returns-then-is_done c =
     record {
       answer = k.given;
       bytes = made_by_lem a.target.now _ _ _ k.given _ k.done
-            (made_written c.args.element.now k.cells
-            (λ i. let l = c.type_inv.element i in omega arith)
-            EightBit a.w a.h A a.which _ q a.target.now _ c.make_bytes.ensures.bytes);
+          (made_written c.args.element.now k.cells
+          (λ i. let l = c.type_inv.element i in omega arith)
+          EightBit a.w a.h A a.which _ q a.target.now _ c.make_bytes.ensures.bytes);
       middle = made_by_lem a.scratch.now _ _ _ k.given _ k.done
-            (middle_written c.args.element.now k.cells
-            (λ i. let l = c.type_inv.element i in omega arith)
-            EightBit a.w a.h A a.which _ q a.scratch.now _ c.make_bytes.ensures.middle);
+          (middle_written c.args.element.now k.cells
+          (λ i. let l = c.type_inv.element i in omega arith)
+          EightBit a.w a.h A a.which _ q a.scratch.now _ c.make_bytes.ensures.middle);
     }
 
 pub returns : goal.returns

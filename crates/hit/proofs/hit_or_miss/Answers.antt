@@ -47,7 +47,7 @@ hit_rows-requires c =
       ready = ready OneBit _ _ a.w a.h _ (source_holds (goal.at.hit_rows-requires c).Then-is_done)
           (fitting _ (made_cells _ k.1.0) _ c.element_at-a.ensures);
       ready_2 = ready OneBit _ _ a.w a.h _ (source_holds (goal.at.hit_rows-requires c).Then-is_done)
-            (fitting _ (made_cells _ k.1.1) _ c.element_at-b.ensures);
+          (fitting _ (made_cells _ k.1.1) _ c.element_at-b.ensures);
       holds = holds Free OneBit a.w a.h a.source.now _ k.0.sized (omega (arith, k.0.roomy));
     }
 

@@ -13,19 +13,26 @@ long c = c.any_row.auto.t ∙ c.requires.t_len.0
 
 pub slice_bounds-any_row-end : goal.slice_bounds-any_row-end
 slice_bounds-any_row-end c =
-    sym (front_length _ c.args.w c.requires.ready.few_pings (long (goal.at.slice_bounds-any_row-end c).After-any_row))
+    sym (front_length _ c.args.w c.requires.ready.few_pings
+    (long (goal.at.slice_bounds-any_row-end c).After-any_row))
 
 pub any_row-requires-2 : goal.any_row-requires-2
 any_row-requires-2 c =
     record {
       ready = c.requires.ready_2;
-      t_len = (front_length _ c.args.w c.requires.ready.few_pings (long (goal.at.any_row-requires-2 c).After-any_row) ∙ long (goal.at.any_row-requires-2 c).After-any_row, c.requires.t_len.1);
+      t_len = (
+        front_length _ c.args.w c.requires.ready.few_pings
+            (long (goal.at.any_row-requires-2 c).After-any_row)
+            ∙ long (goal.at.any_row-requires-2 c).After-any_row,
+        c.requires.t_len.1,
+      );
     }
 
 pub slice_bounds-row-end-2 : goal.slice_bounds-row-end-2
 slice_bounds-row-end-2 c =
     let r = c.any_row-2 in
-    front_in _ c.args.w c.requires.ready.few_pings (long (goal.at.slice_bounds-row-end-2 c).After-any_row) r.new.t r.auto.t
+    front_in _ c.args.w c.requires.ready.few_pings (long (goal.at.slice_bounds-row-end-2 c).After-any_row)
+    r.new.t r.auto.t
 
 pub slice_bounds-meet-end : goal.slice_bounds-meet-end
 slice_bounds-meet-end c =
@@ -45,5 +52,6 @@ returns c =
     let a = c.args in
     hit_row_lem a.s.now a.w a.h a.hit a.hits.now
     a.miss a.misses.now a.y.0 _ _ _ c.any_row.ensures
-    (front_back _ a.w c.requires.ready.few_pings (long (goal.at.returns c).After-any_row) r.new.t r.auto.t ∙ r.ensures)
+    (front_back _ a.w c.requires.ready.few_pings (long (goal.at.returns c).After-any_row)
+    r.new.t r.auto.t ∙ r.ensures)
     c.meet.ensures

@@ -41,7 +41,10 @@ hit_row-requires c =
     record {
       ready = c.requires.ready;
       ready_2 = c.requires.ready_2;
-      t_len = (part_length c.loop-y.t _ _ (room (goal.at.hit_row-requires c).In-loop-y) ∙ c.row_bytes-n.ensures, search rules);
+      t_len = (
+        part_length c.loop-y.t _ _ (room (goal.at.hit_row-requires c).In-loop-y) ∙ c.row_bytes-n.ensures,
+        search rules,
+      );
     }
 
 pub loop-y-preserved : goal.loop-y-preserved

@@ -10,7 +10,8 @@ use Rattle.hit.proofs.hit_rows.Given as goal
 
 abbrev pub invariant-loop-y : goal.invariant-loop-y
 invariant-loop-y l =
-    (l.y ≤ l.h) × (length l.t ≡ length l.initial.t) × (l.t ≡ rows_written OneBit (hit_at l.s l.w l.h l.hit l.hits l.miss l.misses) l.w l.initial.t l.y)
+    (l.y ≤ l.h) × (length l.t ≡ length l.initial.t)
+    × (l.t ≡ rows_written OneBit (hit_at l.s l.w l.h l.hit l.hits l.miss l.misses) l.w l.initial.t l.y)
 
 abbrev pub decreases-loop-y : goal.decreases-loop-y
 decreases-loop-y l = l.h - l.y

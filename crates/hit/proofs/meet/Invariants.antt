@@ -9,7 +9,8 @@ use Rattle.hit.proofs.meet.Given as goal
 
 abbrev pub invariant-loop-i : goal.invariant-loop-i
 invariant-loop-i l =
-    (l.i ≤ length l.by) × (length l.t ≡ length l.initial.t) × (l.t ≡ zip_in bit_and l.initial.t (take l.i l.by))
+    (l.i ≤ length l.by) × (length l.t ≡ length l.initial.t)
+    × (l.t ≡ zip_in bit_and l.initial.t (take l.i l.by))
 
 abbrev pub decreases-loop-i : goal.decreases-loop-i
 decreases-loop-i l = length l.by - l.i

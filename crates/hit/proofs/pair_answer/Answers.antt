@@ -38,7 +38,8 @@ is_shared-requires c =
 
 pub returns-then-is_shared : goal.returns-then-is_shared
 returns-then-is_shared c =
-    overlapping _ _ _ (one (goal.at.returns-then-is_shared c).Else-not-one) (two (goal.at.returns-then-is_shared c).Else-not-two)
+    overlapping _ _ _ (one (goal.at.returns-then-is_shared c).Else-not-one)
+    (two (goal.at.returns-then-is_shared c).Else-not-two)
     (sym c.is_shared.ensures ∙ c.if-is_shared.true)
 
 pub returns : goal.returns

@@ -4,6 +4,8 @@ use Rattle.job.specs.Job.{known_letter, operation_of}
 use Rattle.job.specs.Steps.Decided.{asked_of}
 use borrow.Author.Tests.{ne_eqb}
 use mathlib.Core.Path.{sym, ap}
+use mathlib.Core.Logic.{◌≢◌}
+use native.Mathlib.Omega.{arith}
 use Rattle.job.proofs.asked_of.Goals as goal
 
 pub returns-in-101 : goal.returns-in-101
@@ -25,5 +27,7 @@ returns-in-99 c = sym (ap asked_of c.in-99.is)
 pub returns-in_default : goal.returns-in_default
 unfolding asked_of known_letter
 returns-in_default c =
-    let k = c.in_default.in_default-own.rest in
-    simp (ne_eqb _ 101 k.0.0.0.1, ne_eqb _ 100 k.0.0.1, ne_eqb _ 111 k.0.1, ne_eqb _ 99 k.1)
+    let l = c.args.letter in
+    let n : (l ≢ 101) × (l ≢ 100) × (l ≢ 111) × (l ≢ 99) =
+    (omega arith, omega arith, omega arith, omega arith) in
+    simp (ne_eqb l 101 n.0, ne_eqb l 100 n.1, ne_eqb l 111 n.2, ne_eqb l 99 n.3)

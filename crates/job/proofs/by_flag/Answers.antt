@@ -6,6 +6,7 @@ use lib.ListN.{length}
 use lib.Seq.{length-take-le}
 use Prim.Native.Nat.{◌≤◌}
 use mathlib.Core.Path.{sym}
+use native.Mathlib.Omega.{arith}
 use Rattle.job.proofs.by_flag.Goals as goal
 use Rattle.job.proofs.by_flag.Goals.{After-descriptor_len-n}
 
@@ -39,5 +40,5 @@ returns-in-2 c =
 
 pub returns-in_default : goal.returns-in_default
 returns-in_default c =
-    let k = c.in_default in
-    flag_other _ _ _ _ _ _ _ ? ? ? _ _ (c.refused.ensures.answer_value, c.refused.ensures.text_after)
+    flag_other _ _ _ _ _ _ _ (omega arith) (omega arith) (omega arith) _ _
+    (c.refused.ensures.answer_value, c.refused.ensures.text_after)

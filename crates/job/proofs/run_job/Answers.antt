@@ -8,7 +8,7 @@ use Rattle.job.proofs.run_job.Goals as goal
 pub returns-then-job-lt2 : goal.returns-then-job-lt2
 returns-then-job-lt2 c =
     let p = job_not _ _ _ _ _ (too_short _ _ _ _ _ c.if-job-lt2.true) _ _
-        (c.refused.ensures.answer_value, c.refused.ensures.text_after) in
+    (c.refused.ensures.answer_value, c.refused.ensures.text_after) in
     record {
       answer = p.0;
       length = p.1.0;
@@ -20,8 +20,10 @@ returns-then-job-lt2 c =
 
 pub returns-then-job-gt-MOST_JOB : goal.returns-then-job-gt-MOST_JOB
 returns-then-job-gt-MOST_JOB c =
-    let p = job_not _ _ _ _ _ (too_long _ _ _ _ _ c.if-job-lt2.false c.if-job-gt-MOST_JOB.true) _ _
-        (c.refused-then-job-gt-MOST_JOB.ensures.answer_value, c.refused-then-job-gt-MOST_JOB.ensures.text_after) in
+    let p = job_not _ _ _ _ _ (too_long _ _ _ _ _ c.if-job-lt2.false c.if-job-gt-MOST_JOB.true) _ _ (
+      c.refused-then-job-gt-MOST_JOB.ensures.answer_value,
+      c.refused-then-job-gt-MOST_JOB.ensures.text_after,
+    ) in
     record {
       answer = p.0;
       length = p.1.0;
@@ -34,8 +36,8 @@ returns-then-job-gt-MOST_JOB c =
 pub returns-in-For : goal.returns-in-For
 returns-in-For c =
     let p = job_done _ _ _ _ _ _ _ _ _ _ c.if-job-lt2.false c.if-job-gt-MOST_JOB.false _ _
-        (sym c.in-For.is ∙ c.asked_of-asked.ensures) (tail_is c.args.job.now 2)
-        c.by_flag.ensures in
+    (sym c.in-For.is ∙ c.asked_of-asked.ensures) (tail_is c.args.job.now 2)
+    c.by_flag.ensures in
     record {
       answer = p.0;
       length = p.1.0;
@@ -48,8 +50,8 @@ returns-in-For c =
 pub returns-in-Nothing : goal.returns-in-Nothing
 returns-in-Nothing c =
     let p = job_not _ _ _ _ _ (nothing_asked _ _ _ _ _ c.if-job-lt2.false c.if-job-gt-MOST_JOB.false
-        (sym c.in-Nothing.is ∙ c.asked_of-asked.ensures)) _ _
-        (c.refused-in-Nothing.ensures.answer_value, c.refused-in-Nothing.ensures.text_after) in
+    (sym c.in-Nothing.is ∙ c.asked_of-asked.ensures)) _ _
+    (c.refused-in-Nothing.ensures.answer_value, c.refused-in-Nothing.ensures.text_after) in
     record {
       answer = p.0;
       length = p.1.0;

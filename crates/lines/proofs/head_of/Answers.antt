@@ -1,3 +1,5 @@
+-- Each number begins where the one before it ends.
+-- So the head is the definition's, number by number.
 use Rattle.lines.proofs.Reading.{head_is}
 use Rattle.lines.proofs.head_of.Goals as goal
 

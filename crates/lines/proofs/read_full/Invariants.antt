@@ -1,3 +1,4 @@
+-- Invariant: what was read lies within the buffer, which keeps its length.
 -- What falls: the room that is left.
 use Rattle.std.proofs.Common.{◌≡◌, ◌-◌, ◌^◌, ◌≤◌, ◌<◌, length}
 use Rattle.lines.proofs.read_full.Given as goal

@@ -1,4 +1,5 @@
--- What is left gives the line's end, and i lies past `at`, or at it with a byte there.
+-- Invariant: what is left gives the line's end, and i lies past `at`, or at it with a byte there.
+-- What falls: the bytes of the input that are left.
 use Rattle.std.proofs.Common.{length, drop, ◌-◌, ◌≡◌, ◌<◌, ◌≤◌}
 use Rattle.numbers.specs.Numbers.{end_in}
 use Rattle.numbers.proofs.line_end.Given as goal

@@ -1,4 +1,5 @@
--- The digits that are left, after the number so far, give the number at the place.
+-- Invariant: the digits that are left, after the number so far, give the number at the place.
+-- What falls: the bytes of the line that are left.
 use Rattle.std.proofs.Common.{length, drop, ◌-◌, ◌≡◌}
 use Rattle.numbers.specs.Numbers.{number_in}
 use Rattle.numbers.proofs.number_at.Given as goal

@@ -46,7 +46,8 @@ rows_at-words-requires c = (judged (goal.at.rows_at-words-requires c).Then-is_do
 
 pub cells_end-at-requires : goal.cells_end-at-requires
 cells_end-at-requires c =
-    small (judged (goal.at.cells_end-at-requires c).Then-is_done) _ (found (goal.at.cells_end-at-requires c).After-rows_at-words)
+    small (judged (goal.at.cells_end-at-requires c).Then-is_done) _
+    (found (goal.at.cells_end-at-requires c).After-rows_at-words)
 
 pub slice_bounds-heights-count : goal.slice_bounds-heights-count
 slice_bounds-heights-count c = start_of c

@@ -48,7 +48,8 @@ rows_at-words-requires c = (judged (goal.at.rows_at-words-requires c).Then-is_do
 
 pub cells_end-at-requires : goal.cells_end-at-requires
 cells_end-at-requires c =
-    small (judged (goal.at.cells_end-at-requires c).Then-is_done) _ (found (goal.at.cells_end-at-requires c).After-rows_at-words)
+    small (judged (goal.at.cells_end-at-requires c).Then-is_done) _
+    (found (goal.at.cells_end-at-requires c).After-rows_at-words)
 
 pub slice_bounds-heights-count : goal.slice_bounds-heights-count
 slice_bounds-heights-count c = start_of c
@@ -76,9 +77,9 @@ returns-then-is_done c =
     record {
       answer = k.given;
       bytes = twice_left k _ q _ n (λ i. let l = c.type_inv.element i in omega arith)
-            a.target.now _ _ (grows_of a.first) g c.weighted_twice.ensures.bytes;
+          a.target.now _ _ (grows_of a.first) g c.weighted_twice.ensures.bytes;
       middle = once_left k _ q _ n (λ i. let l = c.type_inv.element i in omega arith)
-            a.scratch.now _ _ (grows_of a.first) g c.weighted_twice.ensures.middle;
+          a.scratch.now _ _ (grows_of a.first) g c.weighted_twice.ensures.middle;
     }
 
 pub returns : goal.returns

@@ -48,7 +48,8 @@ element_at-e-requires c = made_cells _ (known c).0
 pub work_out-n-requires : goal.work_out-n-requires
 work_out-n-requires c =
     let d = c.args.descriptor.now in record {
-      fitting = fitting d (made_cells d (known (goal.at.work_out-n-requires c).Then-is_done).0) _ c.element_at-e.ensures;
+      fitting = fitting d (made_cells d (known (goal.at.work_out-n-requires c).Then-is_done).0) _
+          c.element_at-e.ensures;
       taken = (known (goal.at.work_out-n-requires c).Then-is_done).1;
     }
 
@@ -58,8 +59,10 @@ returns-then-is_done c =
     let d = a.descriptor.now in
     carried_done _ a.op c.args.descriptor.now a.file.now a.source.now
     a.res.now a.scratch.now a.text.now _
-    (answered (goal.at.returns-then-is_done c).After-refusal-no) _ _ _ _ _ (done (goal.at.returns-then-is_done c).Then-is_done)
-    (worked_read c.args.descriptor.now (made_cells c.args.descriptor.now (known (goal.at.returns-then-is_done c).Then-is_done).0)
+    (answered (goal.at.returns-then-is_done c).After-refusal-no) _ _ _ _ _
+    (done (goal.at.returns-then-is_done c).Then-is_done)
+    (worked_read c.args.descriptor.now
+    (made_cells c.args.descriptor.now (known (goal.at.returns-then-is_done c).Then-is_done).0)
     (λ i. omega (
       arith,
       c.type_inv.descriptor i,
@@ -74,6 +77,7 @@ returns c =
     let a = c.args in
     carried_refused _ a.op a.descriptor.now a.file.now
     a.source.now a.res.now a.scratch.now
-    a.text.now _ (answered (goal.at.returns c).After-refusal-no) _ _ (sym c.is_done.ensures ∙ c.if-is_done.false)
+    a.text.now _ (answered (goal.at.returns c).After-refusal-no) _ _
+    (sym c.is_done.ensures ∙ c.if-is_done.false)
     c.refused.ensures.answer_value
     c.refused.ensures.text_after

@@ -43,7 +43,8 @@ pub returns-then-n-most_len : goal.returns-then-n-most_len
 returns-then-n-most_len c =
     refused_room _ _ _ _ (shape_done (goal.at.returns-then-n-most_len c).Else-not-is_done) _
     c.judge_ech-head.ensures.answer
-    (file_done (goal.at.returns-then-n-most_len c).Else-not-is_done-2) _ (long (goal.at.returns-then-n-most_len c).After-most_len)
+    (file_done (goal.at.returns-then-n-most_len c).Else-not-is_done-2) _
+    (long (goal.at.returns-then-n-most_len c).After-most_len)
     c.if-n-most_len.true
 
 pub returns : goal.returns

@@ -48,7 +48,8 @@ operate-requires c =
 pub put_text-requires : goal.put_text-requires
 put_text-requires c =
     let a = c.args in
-    let p = text_taken (lent (goal.at.put_text-requires c).After-picture_bytes-n) (shape_by a.o a.words.now) a.op _ _ (c.operate.ensures.res_after, c.operate.ensures.scratch_after)
+    let p = text_taken (lent (goal.at.put_text-requires c).After-picture_bytes-n) (shape_by a.o a.words.now)
+    a.op _ _ (c.operate.ensures.res_after, c.operate.ensures.scratch_after)
     c.operate.auto.res in
     record { holds = p.0; kind_in_bounds = p.1 }
 
@@ -56,4 +57,5 @@ pub returns : goal.returns
 returns c =
     let a = c.args in
     worked_out (lent (goal.at.returns c).After-picture_bytes-n) (shape_by a.o a.words.now)
-    a.op _ _ (c.operate.ensures.res_after, c.operate.ensures.scratch_after) _ _ (c.put_text.ensures.value, c.put_text.ensures.t_after)
+    a.op _ _ (c.operate.ensures.res_after, c.operate.ensures.scratch_after) _ _
+    (c.put_text.ensures.value, c.put_text.ensures.t_after)
