@@ -60,14 +60,7 @@ fn one(rt: &impl Print, line: &[u8], at: usize, book: &mut [u8]) -> io::Result<u
     let mut element = lines::buffer();
     let e = lines::buffer_at(line, n.next, &mut element);
     let party = party_of(who.value);
-    call(
-        rt,
-        party,
-        what.value,
-        book,
-        n.value,
-        &element[..e.value],
-    )?;
+    call(rt, party, what.value, book, n.value, &element[..e.value])?;
     Ok(e.next)
 }
 
@@ -88,13 +81,7 @@ fn each_call(
 }
 
 // The calls, and what came of them.
-fn run(
-    rt: &impl Print,
-    line: &[u8],
-    at: usize,
-    calls: usize,
-    book: &mut [u8],
-) -> io::Result<()> {
+fn run(rt: &impl Print, line: &[u8], at: usize, calls: usize, book: &mut [u8]) -> io::Result<()> {
     each_call(rt, line, at, calls, book)?;
     show::buffer(rt, b"book", book)
 }

@@ -30,13 +30,7 @@ fn run(
 }
 
 // What a call is given, and the call.
-fn given(
-    rt: &impl Print,
-    head: Head,
-    line: &[u8],
-    at: usize,
-    target: &mut [u8],
-) -> io::Result<()> {
+fn given(rt: &impl Print, head: Head, line: &[u8], at: usize, target: &mut [u8]) -> io::Result<()> {
     let mut marker = lines::large_buffer();
     let mut mask = lines::large_buffer();
     let m = lines::buffer_at(line, at, &mut marker);

@@ -47,13 +47,7 @@ fn numbers(rt: &impl Print, list: &[u32]) -> io::Result<()> {
 }
 
 // The call, and what came of it.
-fn run(
-    rt: &impl Print,
-    w: usize,
-    h: usize,
-    source: &[u8],
-    list: &mut [u32],
-) -> io::Result<()> {
+fn run(rt: &impl Print, w: usize, h: usize, source: &[u8], list: &mut [u32]) -> io::Result<()> {
     let nested = nesting::nest(w, h, source, list);
     let said: Answer = nested.answer;
     show::answered(rt, said)?;
@@ -132,10 +126,25 @@ fn job(rt: &impl Print, letter: u8, line: &[u8]) -> io::Result<()> {
     let mut source = lines::large_buffer();
     let s = lines::buffer_at(line, head.next, &mut source);
     if letter == b's' {
-        return sizes_job(rt, head.w, head.h, &source[..s.value], head.links, line, s.next);
+        return sizes_job(
+            rt,
+            head.w,
+            head.h,
+            &source[..s.value],
+            head.links,
+            line,
+            s.next,
+        );
     }
     let mut list = [7u32; 520];
-    lend(rt, head.w, head.h, &source[..s.value], &mut list, head.links)
+    lend(
+        rt,
+        head.w,
+        head.h,
+        &source[..s.value],
+        &mut list,
+        head.links,
+    )
 }
 
 fn each_line(rt: &impl Print, input: &[u8]) -> io::Result<()> {

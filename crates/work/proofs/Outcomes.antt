@@ -40,7 +40,8 @@ module _ (a : Told) (op : Operation) (d f p r m t : List ℕ) (said : Answer) (e
       → t' ≡ over (refusal_of (told said) (length t)) t → Carried a op d f p r m t back p r m t'
   unfolding picture_after result_after scratch_after printed
   carried_refused back t' e b et =
-      let s : refusal_of (told said) (length t) ≡ cond (is_done a) (text_in op d f) (refusal_of a (length t)) =
+      let s : refusal_of (told said) (length t) ≡ cond (is_done a) (text_in op d f) (refusal_of a
+      (length t)) =
       ap (λ x. refusal_of x (length t)) ea
       ∙ sym (ap (λ b. cond b (text_in op d f) (refusal_of a (length t))) (ap is_done (sym ea) ∙ e)) in
       record {
