@@ -2,7 +2,7 @@
 // tools/cases makes the lines, and says what their letters and numbers mean.
 #![tactic(auto)]
 
-ghost use Rattle.std.specs.Prelude.{◌≡◌, length, IfOk};
+ghost use Rattle.std.specs.Prelude.{◌≡◌, length};
 ghost use Rattle.io.specs.Counts.{IsPrefixLen};
 ghost use Rattle.lines.specs.Buffers.{last_with, buffer_at, filled_at};
 ghost use Rattle.lines.specs.Heads.{depth_of, head_of};
@@ -26,18 +26,22 @@ pub struct Head {
 }
 
 // The input to its end, as far as there is room for it: how many bytes it has put at the start of b.
-pub fn read_full(input: &mut impl Read, b: &mut [u8]) -> std::io::Result<usize>
-    ensures { IfOk result (λ n. IsPrefixLen n b.new) }
+// An input that fails has ended.
+pub fn read_full(input: &mut impl Read, b: &mut [u8]) -> usize
+    ensures { IsPrefixLen result b.new }
 {
     let mut done = 0;
     while done < b.len() {
-        let n = input.read(&mut b[done..])?;
+        let n = match input.read(&mut b[done..]) {
+            Ok(n) => n,
+            Err(_) => 0,
+        };
         if n == 0 {
             break;
         }
         done += n;
     }
-    Ok(done)
+    done
 }
 
 // The number that byte i of a buffer is: the next of the line, or past the first m the last one again.
