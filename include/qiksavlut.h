@@ -15,14 +15,14 @@
  * Answers. The number is QIK_DONE or the first refusal that holds, in the order of the comment at each function. A refusal changes no byte.
  *
  * Stack. A call takes at most so many bytes of it, on x86-64 and on aarch64, with all that it calls, whatever the input; beside it the lent buffers, and no other memory.
- *    1,560  qik_erode1 qik_dilate1 qik_open1 qik_close1 qik_white_tophat1 qik_black_tophat1 qik_gradient1
+ *    1,824  qik_erode1 qik_dilate1 qik_open1 qik_close1 qik_white_tophat1 qik_black_tophat1 qik_gradient1
  *    4,096  qik_erode8 qik_dilate8 qik_open8 qik_close8 qik_white_tophat8 qik_black_tophat8 qik_gradient8
- *    2,688  qik_hit_or_miss
+ *    3,424  qik_hit_or_miss
  *    3,968  qik_weighted_erode qik_weighted_dilate qik_weighted_open qik_weighted_close
- *    4,864  qik_check_chain
- *    5,056  qik_chain_erode1 qik_chain_dilate1 qik_chain_erode8 qik_chain_dilate8
- *    7,680  qik_find_chain
- *    1,088  qik_reconstruct_cross qik_reconstruct_square qik_size_spectrum
+ *    5,312  qik_check_chain
+ *    5,472  qik_chain_erode1 qik_chain_dilate1 qik_chain_erode8 qik_chain_dilate8
+ *    8,416  qik_find_chain
+ *    1,152  qik_reconstruct_cross qik_reconstruct_square qik_size_spectrum
  *   82,480  qik_nesting
  *      256  qik_ech_read qik_ech_write qik_pbm_read qik_pgm_read qik_pbm_write qik_pgm_write
  *      320  qik_book_start qik_display_put qik_display_remove qik_display_tidy qik_display_get
