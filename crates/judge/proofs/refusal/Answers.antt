@@ -6,6 +6,7 @@ use Rattle.answer.specs.Answer.{told, is_done}
 use Rattle.answer.specs.Refuse.{refuse}
 use Rattle.picture.specs.Frame.{sized_frame, picture_bytes}
 use Rattle.judge.specs.Tests.{picture_tests}
+use lib.ListN.{length}
 use Rattle.judge.proofs.Admitted.{bytes_are, holds, refused_size, refused_source, refused_pad}
 use Rattle.judge.proofs.Admitted.{picture_passed, refused_between, refused_room, nothing_refused}
 use mathlib.Core.Bool.{true}
@@ -25,13 +26,14 @@ bytes_known c = let a = c.args in
     bytes_are a.padding a.depth a.w a.h
     a.s.now _ c.picture_bytes-n.ensures (size_known (goal.at.Else-s-n c).Else-not-sized)
 
--- the padding passes: all that is left to say stands after the tests of the picture
-passed_known : (c : Else-not-is_passed) (after : Told) → let a = c.args in
-    after ≡ refuse (picture_tests a.padding a.depth a.w a.h a.s.now) after
-passed_known c after = let a = c.args in
+-- the padding passes, and the source has its bytes: what is left to say stands after the tests of the picture
+passed_known : (c : Else-not-is_passed) → let a = c.args in
+    length a.s.now ≡ c.picture_bytes-n.result → (after : Told)
+    → after ≡ refuse (picture_tests a.padding a.depth a.w a.h a.s.now) after
+passed_known c e after = let a = c.args in
     picture_passed a.padding a.depth a.w a.h a.s.now after
     (size_known (goal.at.Else-not-is_passed c).Else-not-sized) _
-    c.picture_bytes-n.ensures c.if-s-n.false
+    c.picture_bytes-n.ensures e
     (sym c.is_passed.ensures ∙ c.if-not-is_passed.false)
 
 -- what stands between was done
@@ -74,7 +76,7 @@ returns-then-not-is_done c =
     let a = c.args in
     refused_between a.padding a.depth a.w a.h a.s.now (told a.between) _
     (sym c.is_done.ensures ∙ c.if-not-is_done.true)
-    ∙ passed_known (goal.at.returns-then-not-is_done c).Else-not-is_passed _
+    ∙ passed_known (goal.at.returns-then-not-is_done c).Else-not-is_passed c.if-s-n.false _
 
 pub returns-then-room-before : goal.returns-then-room-before
 unfolding told
@@ -83,7 +85,7 @@ returns-then-room-before c =
     refused_room a.padding a.depth a.w a.h a.s.now
     (told a.between) (between_known (goal.at.returns-then-room-before c).Else-not-is_done) a.before a.room
     (omega arith)
-    ∙ passed_known (goal.at.returns-then-room-before c).Else-not-is_passed _
+    ∙ passed_known (goal.at.returns-then-room-before c).Else-not-is_passed c.if-s-n.false _
 
 pub returns-then-room-before-2 : goal.returns-then-room-before-2
 unfolding told
@@ -93,7 +95,7 @@ returns-then-room-before-2 c =
     refused_room a.padding a.depth a.w a.h a.s.now
     (told a.between) (between_known (goal.at.returns-then-room-before-2 c).Else-not-is_done) a.before a.room
     (omega arith)
-    ∙ passed_known (goal.at.returns-then-room-before-2 c).Else-not-is_passed _
+    ∙ passed_known (goal.at.returns-then-room-before-2 c).Else-not-is_passed c.if-s-n.false _
 
 pub returns : goal.returns
 unfolding told
@@ -103,4 +105,4 @@ returns c =
     nothing_refused a.padding a.depth a.w a.h a.s.now
     (told a.between) (between_known (goal.at.returns c).Else-not-is_done) a.before a.room
     (omega arith)
-    ∙ passed_known (goal.at.returns c).Else-not-is_passed _
+    ∙ passed_known (goal.at.returns c).Else-not-is_passed c.if-s-n.false _
