@@ -33,11 +33,11 @@ returns-then-h c =
 pub returns-then-w-column : goal.returns-then-w-column
 unfolding head_made
 returns-then-w-column c =
-    simp (within c.if-w-lt1.false c.if-w.false, within c.if-h-lt1.false c.if-h.false,
-    le-ltb _ _ c.if-w-column.true)
+    let w = within c.if-w-lt1.false c.if-w.false in
+    simp (w, within c.if-h-lt1.false c.if-h.false, le-ltb _ _ c.if-w-column.true)
 
 pub returns : goal.returns
 unfolding head_made
 returns c =
-    simp (within c.if-w-lt1.false c.if-w.false, lt-ltb _ _ c.if-w-column.false,
-    within c.if-h-lt1.false c.if-h.false)
+    let h = within c.if-h-lt1.false c.if-h.false in
+    simp (within c.if-w-lt1.false c.if-w.false, h, lt-ltb _ _ c.if-w-column.false)
