@@ -24,7 +24,7 @@ fn main(rt: HostRuntime) -> io::Result<()> {
     let mut result = [0u8; job::MOST_JOB];
     let mut scratch = [0u8; job::MOST_JOB];
     let mut text = [0u8; job::TEXT_ROOM];
-    let n = lines::read_full(&mut rt.reader(), &mut input);
+    let n = lines::read_full(&mut rt.reader(), &mut input)?;
     let done = job::run_job(
         &input[..n],
         &mut picture,

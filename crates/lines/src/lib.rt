@@ -2,14 +2,15 @@
 // tools/cases makes the lines, and says what their letters and numbers mean.
 #![tactic(auto)]
 
-ghost use Rattle.std.specs.Prelude.{◌≡◌, length};
+ghost use Rattle.std.specs.Prelude.{◌≡◌, ◌<◌, length, take, IfOk};
+ghost use Rattle.std.specs.Io.KnownBytes.{Consumes, IsAtEnd};
 ghost use Rattle.io.specs.Counts.{IsPrefixLen};
 ghost use Rattle.lines.specs.Buffers.{last_with, buffer_at, filled_at};
 ghost use Rattle.lines.specs.Heads.{depth_of, head_of};
 
 use numbers::Found;
 use picture::Depth;
-use std::io::Read;
+use std::io::{Read, Result};
 
 // The room that lines and their buffers are read into.
 pub use io::{buffer, large_buffer};
@@ -26,22 +27,22 @@ pub struct Head {
 }
 
 // The input to its end, as far as there is room for it: how many bytes it has put at the start of b.
-// An input that fails has ended.
-pub fn read_full(input: &mut impl Read, b: &mut [u8]) -> usize
-    ensures { IsPrefixLen result b.new }
+// Fewer than there is room for are read only where the input has ended; one that fails gives its error.
+pub fn read_full<R: Read>(input: &mut R, b: &mut [u8]) -> Result<usize>
+    ensures counts { IfOk result (λ n. IsPrefixLen n b.new) }
+    ensures bytes { IfOk result
+        (λ n. Consumes (R.remaining input.old) (R.remaining input.new) (take n b.new)) }
+    ensures end { IfOk result (λ n. n < length b.new → IsAtEnd (R.remaining input.new)) }
 {
     let mut done = 0;
     while done < b.len() {
-        let n = match input.read(&mut b[done..]) {
-            Ok(n) => n,
-            Err(_) => 0,
-        };
+        let n = input.read(&mut b[done..])?;
         if n == 0 {
-            break;
+            return Ok(done);
         }
         done += n;
     }
-    done
+    Ok(done)
 }
 
 // The number that byte i of a buffer is: the next of the line, or past the first m the last one again.

@@ -159,6 +159,6 @@ fn each_line(rt: &impl Print, input: &[u8]) -> io::Result<()> {
 
 fn main(rt: HostRuntime) -> io::Result<()> {
     let mut input = lines::large_buffer();
-    let n = lines::read_full(&mut rt.reader(), &mut input);
+    let n = lines::read_full(&mut rt.reader(), &mut input)?;
     each_line(&rt, &input[..n])
 }
