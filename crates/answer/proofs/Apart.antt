@@ -5,15 +5,15 @@ use mathlib.Core.Bool.{Bool, true, false, cond}
 use native.Mathlib.Omega.{arith}
 use borrow.Author.Tests.{ltb-true, ltb-false}
 use lib.Bits.{bit_and, bit_xor, and_mask, xor_comm, xor_shifted, xor_block, xor_zero_r}
+use Rattle.std.specs.Prelude.{Ok, Err}
 use lib.Dec.{ltb, lit<}
 use lib.IntN.{ℤ, pos, negsuc, sub_ℕ}
-use Rattle.answer.specs.declared.Answer.{Answer}
-use Rattle.answer.specs.declared.Answer.TheVariants.{Done, Size, Source, Pad, Shape}
-use Rattle.answer.specs.declared.Answer.TheVariants.{Overlap, Chain, Split, Room, Form, Job, Netpbm}
-use Rattle.answer.specs.declared.Answer.TheVariants.{Marker, Full, Absent, Retired, Nest, Book}
-use Rattle.answer.specs.declared.Answer.TheVariants.{NoChain}
+use Rattle.answer.specs.declared.Refusal.TheVariants.{Size, Source, Pad, Shape}
+use Rattle.answer.specs.declared.Refusal.TheVariants.{Overlap, Chain, Split, Room, Form, Job, Netpbm}
+use Rattle.answer.specs.declared.Refusal.TheVariants.{Marker, Full, Absent, Retired, Nest, Book}
+use Rattle.answer.specs.declared.Refusal.TheVariants.{NoChain}
 use Rattle.answer.specs.declared.Told.{Told}
-use Rattle.answer.specs.Answer.{told, plain, centre}
+use Rattle.answer.specs.Answer.{Answer, told, told_refusal, plain, centre}
 use Rattle.answer.specs.Packed.{mod_byte, packed}
 use Rattle.answer.specs.Apart.{byte_from, coordinate, apart, OfBytes}
 
@@ -75,24 +75,24 @@ unfolding plain
 plain_apart n l = apart_told (plain n) l none none
 
 pub taken_apart : (a : Answer) → OfBytes a → apart (packed (told a)) ≡ told a
-unfolding told
-taken_apart Done bytes = plain_apart 0 (lit< tt)
-taken_apart Size bytes = plain_apart 1 (lit< tt)
-taken_apart Source bytes = plain_apart 2 (lit< tt)
-taken_apart Pad bytes = plain_apart 3 (lit< tt)
-taken_apart Shape bytes = plain_apart 4 (lit< tt)
-taken_apart Overlap bytes = plain_apart 5 (lit< tt)
-taken_apart Chain bytes = plain_apart 6 (lit< tt)
-taken_apart (Split x y) bytes =
-    apart_told (told (Split x y)) (lit< tt) (back x (bytes x y refl).0) (back y (bytes x y refl).1)
-taken_apart Room bytes = plain_apart 8 (lit< tt)
-taken_apart Form bytes = plain_apart 9 (lit< tt)
-taken_apart Job bytes = plain_apart 10 (lit< tt)
-taken_apart Netpbm bytes = plain_apart 11 (lit< tt)
-taken_apart Marker bytes = plain_apart 12 (lit< tt)
-taken_apart Full bytes = plain_apart 13 (lit< tt)
-taken_apart Absent bytes = plain_apart 14 (lit< tt)
-taken_apart Retired bytes = plain_apart 15 (lit< tt)
-taken_apart Nest bytes = plain_apart 16 (lit< tt)
-taken_apart Book bytes = plain_apart 17 (lit< tt)
-taken_apart NoChain bytes = plain_apart 18 (lit< tt)
+unfolding told told_refusal
+taken_apart (Ok tt) bytes = plain_apart 0 (lit< tt)
+taken_apart (Err Size) bytes = plain_apart 1 (lit< tt)
+taken_apart (Err Source) bytes = plain_apart 2 (lit< tt)
+taken_apart (Err Pad) bytes = plain_apart 3 (lit< tt)
+taken_apart (Err Shape) bytes = plain_apart 4 (lit< tt)
+taken_apart (Err Overlap) bytes = plain_apart 5 (lit< tt)
+taken_apart (Err Chain) bytes = plain_apart 6 (lit< tt)
+taken_apart (Err (Split x y)) bytes =
+    apart_told (told_refusal (Split x y)) (lit< tt) (back x (bytes x y refl).0) (back y (bytes x y refl).1)
+taken_apart (Err Room) bytes = plain_apart 8 (lit< tt)
+taken_apart (Err Form) bytes = plain_apart 9 (lit< tt)
+taken_apart (Err Job) bytes = plain_apart 10 (lit< tt)
+taken_apart (Err Netpbm) bytes = plain_apart 11 (lit< tt)
+taken_apart (Err Marker) bytes = plain_apart 12 (lit< tt)
+taken_apart (Err Full) bytes = plain_apart 13 (lit< tt)
+taken_apart (Err Absent) bytes = plain_apart 14 (lit< tt)
+taken_apart (Err Retired) bytes = plain_apart 15 (lit< tt)
+taken_apart (Err Nest) bytes = plain_apart 16 (lit< tt)
+taken_apart (Err Book) bytes = plain_apart 17 (lit< tt)
+taken_apart (Err NoChain) bytes = plain_apart 18 (lit< tt)

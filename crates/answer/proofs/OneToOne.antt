@@ -4,15 +4,15 @@ use mathlib.Core.Path.{◌≡◌, refl, sym, ap, ap₂, ◌∙◌}
 use mathlib.Core.Bool.{Bool, true, false, cond}
 use native.Mathlib.Omega.{arith}
 use borrow.Author.Tests.{ltb-true, ltb-false}
+use Rattle.std.specs.Prelude.{Ok, Err}
 use lib.Dec.{ltb, eqb}
 use lib.IntN.{ℤ, pos, negsuc, sub_ℕ}
-use Rattle.answer.specs.declared.Answer.{Answer}
-use Rattle.answer.specs.declared.Answer.TheVariants.{Done, Size, Source, Pad, Shape}
-use Rattle.answer.specs.declared.Answer.TheVariants.{Overlap, Chain, Split, Room, Form, Job, Netpbm}
-use Rattle.answer.specs.declared.Answer.TheVariants.{Marker, Full, Absent, Retired, Nest, Book}
-use Rattle.answer.specs.declared.Answer.TheVariants.{NoChain}
+use Rattle.answer.specs.declared.Refusal.TheVariants.{Size, Source, Pad, Shape}
+use Rattle.answer.specs.declared.Refusal.TheVariants.{Overlap, Chain, Split, Room, Form, Job, Netpbm}
+use Rattle.answer.specs.declared.Refusal.TheVariants.{Marker, Full, Absent, Retired, Nest, Book}
+use Rattle.answer.specs.declared.Refusal.TheVariants.{NoChain}
 use Rattle.answer.specs.declared.Told.{Told}
-use Rattle.answer.specs.Answer.{told, plain, centre}
+use Rattle.answer.specs.Answer.{Answer, told, told_refusal, plain, centre}
 
 -- the byte that stands for a coordinate
 abbrev byte_of : ℤ → ℕ
@@ -29,47 +29,47 @@ byte_back x = by (ltb x centre) refl
 -- the answer that is told so
 abbrev answer_of : Told → Answer
 answer_of t =
-    cond (eqb t.number 0) Done
-    (cond (eqb t.number 1) Size
-    (cond (eqb t.number 2) Source
-    (cond (eqb t.number 3) Pad
-    (cond (eqb t.number 4) Shape
-    (cond (eqb t.number 5) Overlap
-    (cond (eqb t.number 6) Chain
-    (cond (eqb t.number 7) (Split (byte_of t.dx) (byte_of t.dy))
-    (cond (eqb t.number 8) Room
-    (cond (eqb t.number 9) Form
-    (cond (eqb t.number 10) Job
-    (cond (eqb t.number 11) Netpbm
-    (cond (eqb t.number 12) Marker
-    (cond (eqb t.number 13) Full
-    (cond (eqb t.number 14) Absent
-    (cond (eqb t.number 15) Retired
-    (cond (eqb t.number 16) Nest
-    (cond (eqb t.number 17) Book
-    NoChain)))))))))))))))))
+    cond (eqb t.number 0) (Ok tt)
+    (cond (eqb t.number 1) (Err Size)
+    (cond (eqb t.number 2) (Err Source)
+    (cond (eqb t.number 3) (Err Pad)
+    (cond (eqb t.number 4) (Err Shape)
+    (cond (eqb t.number 5) (Err Overlap)
+    (cond (eqb t.number 6) (Err Chain)
+    (cond (eqb t.number 7) (Err (Split (byte_of t.dx) (byte_of t.dy)))
+    (cond (eqb t.number 8) (Err Room)
+    (cond (eqb t.number 9) (Err Form)
+    (cond (eqb t.number 10) (Err Job)
+    (cond (eqb t.number 11) (Err Netpbm)
+    (cond (eqb t.number 12) (Err Marker)
+    (cond (eqb t.number 13) (Err Full)
+    (cond (eqb t.number 14) (Err Absent)
+    (cond (eqb t.number 15) (Err Retired)
+    (cond (eqb t.number 16) (Err Nest)
+    (cond (eqb t.number 17) (Err Book)
+    (Err NoChain))))))))))))))))))
 
 answer_back : (a : Answer) → answer_of (told a) ≡ a
-unfolding told plain
-answer_back Done = refl
-answer_back Size = refl
-answer_back Source = refl
-answer_back Pad = refl
-answer_back Shape = refl
-answer_back Overlap = refl
-answer_back Chain = refl
-answer_back (Split x y) = ap₂ Split (byte_back x) (byte_back y)
-answer_back Room = refl
-answer_back Form = refl
-answer_back Job = refl
-answer_back Netpbm = refl
-answer_back Marker = refl
-answer_back Full = refl
-answer_back Absent = refl
-answer_back Retired = refl
-answer_back Nest = refl
-answer_back Book = refl
-answer_back NoChain = refl
+unfolding told told_refusal plain
+answer_back (Ok tt) = refl
+answer_back (Err Size) = refl
+answer_back (Err Source) = refl
+answer_back (Err Pad) = refl
+answer_back (Err Shape) = refl
+answer_back (Err Overlap) = refl
+answer_back (Err Chain) = refl
+answer_back (Err (Split x y)) = ap₂ (λ x y. Err (Split x y)) (byte_back x) (byte_back y)
+answer_back (Err Room) = refl
+answer_back (Err Form) = refl
+answer_back (Err Job) = refl
+answer_back (Err Netpbm) = refl
+answer_back (Err Marker) = refl
+answer_back (Err Full) = refl
+answer_back (Err Absent) = refl
+answer_back (Err Retired) = refl
+answer_back (Err Nest) = refl
+answer_back (Err Book) = refl
+answer_back (Err NoChain) = refl
 
 pub told_one_to_one : (a b : Answer) → told a ≡ told b → a ≡ b
 told_one_to_one a b e = sym (answer_back a) ∙ ap answer_of e ∙ answer_back b

@@ -1,11 +1,10 @@
 -- An answer taken apart again from the one number that C gets, as include/qiksavlut.h does it.
-use Rattle.std.specs.Prelude.{ℕ, ◌-◌, ◌/◌, ◌^◌, ◌<◌, ◌≡◌, ℤ}
+use Rattle.std.specs.Prelude.{Err, ℕ, ◌-◌, ◌/◌, ◌^◌, ◌<◌, ◌≡◌, ℤ}
 use Rattle.std.specs.Int.Bits.{bit_and, bit_xor}
 use Rattle.std.proofs.Math.IntN.{sub_ℕ}
-use Rattle.answer.specs.declared.Answer.{Answer}
-use Rattle.answer.specs.declared.Answer.TheVariants.{Split}
+use Rattle.answer.specs.declared.Refusal.TheVariants.{Split}
 use Rattle.answer.specs.declared.Told.{Told}
-use Rattle.answer.specs.Answer.{centre}
+use Rattle.answer.specs.Answer.{Answer, centre}
 
 -- n >> k & 255
 abbrev pub byte_from : ℕ → ℕ → ℕ
@@ -27,4 +26,4 @@ apart n =
 
 -- a split holds two bytes
 abbrev pub OfBytes : Answer → Type 0
-OfBytes a = (x y : ℕ) → a ≡ Split x y → (x < 2 ^ 8) × (y < 2 ^ 8)
+OfBytes a = (x y : ℕ) → a ≡ Err (Split x y) → (x < 2 ^ 8) × (y < 2 ^ 8)

@@ -1,14 +1,13 @@
--- What is asked of a picture and an element that was read, at a depth that was found;
--- and what rows by a weighted element are.
+-- What is asked of a picture and an element that was read; and what rows by a weighted element are.
 use Prim.Native.Nat.{ℕ}
-use mathlib.Core.Path.{◌≡◌, sym, ap, ◌∙◌, subst}
+use mathlib.Core.Path.{◌≡◌}
 use mathlib.Core.Bool.{Bool}
 use mathlib.Core.List.{List}
 use Rattle.picture.specs.declared.Depth.{Depth}
 use Rattle.picture.specs.declared.Depth.TheVariants.{EightBit}
 use Rattle.picture.specs.Frame.{Holds}
 use Rattle.picture.specs.Points.{value_at}
-use Rattle.picture.specs.Bytes.{Picture, written}
+use Rattle.picture.specs.Bytes.{written}
 use Rattle.element.specs.declared.Outline.{Outline}
 use Rattle.rows.specs.Steps.Ready.{Ready}
 use Rattle.byterow.specs.Steps.Row.{swept_bytes}
@@ -28,18 +27,6 @@ ready depth ns nw w h o p f =
       row = f.row;
       words = f.words;
     }
-
--- at a depth that was found
-pub holds_at : (depth found : Depth) (n w h : ℕ) → depth ≡ found → Holds depth n w h → Holds found n w h
-holds_at depth found n w h q p = subst (λ d. Holds d n w h) q p
-
-pub ready_at : (depth found : Depth) (ns nw w h : ℕ) (o : Outline) → depth ≡ found
-    → Ready depth ns nw w h o → Ready found ns nw w h o
-ready_at depth found ns nw w h o q p = subst (λ d. Ready d ns nw w h o) q p
-
-pub at_depth : (P : Depth → Picture) (w h : ℕ) (t u : List ℕ) (depth found : Depth) → depth ≡ found
-    → u ≡ written found (P found) w h t → u ≡ written depth (P depth) w h t
-at_depth P w h t u depth found q eu = eu ∙ ap (λ d. written d (P d) w h t) (sym q)
 
 -- ---- a weighted element, given by its outline, row words and heights
 module _ (w h : ℕ) (o : Outline) (words s t u : List ℕ) (grows : Bool) where

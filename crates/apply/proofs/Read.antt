@@ -2,7 +2,7 @@
 -- and does what the definitions say of the descriptor's own element.
 use Prim.Native.Nat.{ℕ, ◌+◌, ◌-◌, ◌≤◌}
 use mathlib.Core.Path.{◌≡◌, sym, ap, ap₂, ◌∙◌, subst}
-use mathlib.Core.Bool.{Bool, true, false, not, cond}
+use mathlib.Core.Bool.{Bool, true, false, not}
 use mathlib.Core.List.{List}
 use native.Mathlib.Omega.{arith}
 use lib.ListN.{length, take, drop, replicate, length-append, length-replicate}
@@ -18,7 +18,7 @@ use Rattle.element.specs.declared.Element.{Element}
 use Rattle.element.specs.declared.Outline.{Outline}
 use Rattle.element.specs.Descriptor.{most_cells, wide_of, high_of, cells_end}
 use Rattle.element.specs.Descriptor.{heights_of, cells_made, shape_in, weighted_in}
-use Rattle.element.specs.Record.{element_of, nothing, shape_of, weighted_of}
+use Rattle.element.specs.Record.{element_of, shape_of, weighted_of}
 use Rattle.element.specs.Steps.Words.{row_word, row_words}
 use Rattle.element.proofs.WellMade.{cells_tell}
 use Rattle.element.proofs.Cells.{cell_same, weighted_cell_same}
@@ -95,11 +95,7 @@ module _ (d : List ℕ) (m : cells_made d ≡ true) where
         erode_cells (weighted_of (element_of d) d) (weighted_in d).has
         (λ c r lc lr. weighted_cell_same d b m c r lc lr) F A x y lower top
 
--- ---- what is written by the element that was read is what the definitions say of the descriptor's
-pub element_is : (made : Bool) (d : List ℕ) (e : Element) → e ≡ cond made (element_of d) nothing → made ≡ true
-    → e ≡ element_of d
-element_is made d e q m = q ∙ ap (λ b. cond b (element_of d) nothing) m
-
+-- ---- what is written by the element that was read is what the definitions say of the descriptor's:
 -- where its heights are
 module _ (d : List ℕ) (m : cells_made d ≡ true) (e : Element) (q : e ≡ element_of d)
     (n : ℕ) (en : n ≡ cells_end e.outline.w e.outline.h) where

@@ -4,6 +4,7 @@
 #![tactic(auto)]
 
 ghost use Rattle.std.specs.Prelude.{◌≡◌, length};
+ghost use Rattle.picture.specs.declared.Depth.{Depth};
 ghost use Rattle.picture.specs.declared.Depth.TheVariants.{OneBit, EightBit};
 ghost use Rattle.picture.specs.Frame.{Holds};
 ghost use Rattle.picture.specs.Points.{value_at};
@@ -78,6 +79,7 @@ pub fn flat(
 
 // The first into the scratch, and the other from there into t:
 // opening where erosion is the first, closing where dilation is.
+// It calls the ways itself: one function over both depths took qik_gradient1 40 bytes past its stack.
 pub fn bits_twice(
     grows: bool,
     s: &[u8],
@@ -155,6 +157,108 @@ pub fn flat_twice(
     match depth {
         Depth::OneBit => bits_twice(grows, s, t, scratch, w, h, o, words),
         Depth::EightBit => bytes_twice(grows, s, t, scratch, w, h, o, words),
+    }
+}
+
+// One of the depths, and what is done at it. A function over `Deep` is compiled once for each,
+// so that of one bit takes no stack for 8-bit rows.
+pub trait Deep {
+    ghost DEPTH: { Depth };
+
+    const DEPTH: Depth;
+
+    fn flat(grows: bool, s: &[u8], t: &mut [u8], w: usize, h: usize, o: Outline, words: &[RowWord])
+        requires ready { Ready DEPTH (length s.now) (length words.now) w h o }
+        requires holds { Holds DEPTH (length t.old) w h }
+        ensures { t.new
+            ≡ written DEPTH (flat_of grows DEPTH s.now w h o words.now)
+            w h t.old };
+
+    fn twice(
+        grows: bool,
+        s: &[u8],
+        t: &mut [u8],
+        scratch: &mut [u8],
+        w: usize,
+        h: usize,
+        o: Outline,
+        words: &[RowWord],
+    )
+        requires ready { Ready DEPTH (length s.now) (length words.now) w h o }
+        requires holds { Holds DEPTH (length t.old) w h }
+        requires holds_2 { Holds DEPTH (length scratch.old) w h }
+        ensures bytes { t.new
+            ≡ written DEPTH
+            (flat_twice_by grows DEPTH w h o words.now (value_at DEPTH s.now w))
+            w h t.old }
+        ensures middle { scratch.new
+            ≡ written DEPTH (flat_of grows DEPTH s.now w h o words.now)
+            w h scratch.old };
+}
+
+pub struct Bits;
+
+pub struct Bytes;
+
+impl Deep for Bits {
+    ghost DEPTH = { OneBit };
+
+    const DEPTH: Depth = Depth::OneBit;
+
+    fn flat(
+        grows: bool,
+        s: &[u8],
+        t: &mut [u8],
+        w: usize,
+        h: usize,
+        o: Outline,
+        words: &[RowWord],
+    ) {
+        flat_bits(grows, s, t, w, h, o, words);
+    }
+
+    fn twice(
+        grows: bool,
+        s: &[u8],
+        t: &mut [u8],
+        scratch: &mut [u8],
+        w: usize,
+        h: usize,
+        o: Outline,
+        words: &[RowWord],
+    ) {
+        bits_twice(grows, s, t, scratch, w, h, o, words);
+    }
+}
+
+impl Deep for Bytes {
+    ghost DEPTH = { EightBit };
+
+    const DEPTH: Depth = Depth::EightBit;
+
+    fn flat(
+        grows: bool,
+        s: &[u8],
+        t: &mut [u8],
+        w: usize,
+        h: usize,
+        o: Outline,
+        words: &[RowWord],
+    ) {
+        flat_bytes(grows, s, t, w, h, o, words);
+    }
+
+    fn twice(
+        grows: bool,
+        s: &[u8],
+        t: &mut [u8],
+        scratch: &mut [u8],
+        w: usize,
+        h: usize,
+        o: Outline,
+        words: &[RowWord],
+    ) {
+        bytes_twice(grows, s, t, scratch, w, h, o, words);
     }
 }
 

@@ -70,3 +70,6 @@ pub all_same : (p q : ℕ → Bool) (n : ℕ) → ((i : ℕ) → i < n → p i �
 unfolding all
 all_same p q zero each = refl
 all_same p q (suc n) each = ap₂ ◌&&◌ (all_same p q n (λ i h. each i (omega arith))) (each n (omega arith))
+
+-- a loop that tests each number: before the first, and past one more
+pub ruleset walk = (all_none, all_more)

@@ -7,26 +7,26 @@ ghost use Rattle.std.specs.Prelude.{◌≡◌, ◌≤◌, ◌++◌, length, take
 pub fn lesser(a: usize, b: usize) -> usize
     ensures { result ≡ min a b }
 {
-    if a < b { a } else { b }
+    usize::min(a, b)
 }
 
 pub fn greater(a: usize, b: usize) -> usize
     ensures { result ≡ max a b }
 {
-    if b < a { a } else { b }
+    usize::max(a, b)
 }
 
 // The same of bytes, as loops over rows want it.
 pub fn lesser_byte(a: u8, b: u8) -> u8
     ensures { result ≡ min a b }
 {
-    if b < a { b } else { a }
+    u8::min(a, b)
 }
 
 pub fn greater_byte(a: u8, b: u8) -> u8
     ensures { result ≡ max a b }
 {
-    if a < b { b } else { a }
+    u8::max(a, b)
 }
 
 // The bytes of s to the start of t; it gives how many they are.

@@ -1,6 +1,6 @@
 -- The rooms of packed points as they are filled: the padded row, and its windows.
-use Prim.Native.Nat.{ℕ, ◌+◌, ◌-◌, ◌*◌, ◌/◌, ◌%◌, ◌≤◌, ◌<◌, min}
-use mathlib.Core.Path.{◌≡◌, sym, ap, ap₂, ◌∙◌, subst}
+use Prim.Native.Nat.{ℕ, ◌+◌, ◌-◌, ◌*◌, ◌/◌, ◌%◌, ◌≤◌, ◌<◌}
+use mathlib.Core.Path.{◌≡◌, sym, ap, ◌∙◌}
 use mathlib.Core.Bool.{Bool, false}
 use mathlib.Core.List.{List}
 use mathlib.Core.Logic.{◌⊎◌, inl, inr, ⊎_elim}
@@ -11,18 +11,22 @@ use lib.Seq.{get_or-set_same, get_or-set_other}
 use Rattle.basics.specs.Bits.{bit}
 use Rattle.basics.specs.Bytes.{Bytes}
 use Rattle.basics.proofs.SliceParts.{below_or_not}
-use Rattle.rows.specs.Steps.Fold.{join_by, start_by}
+use Rattle.rows.specs.Steps.Fold.{start_by}
 use Rattle.blocks.specs.Steps.Laid.{laid}
 use Rattle.blocks.specs.Steps.Points.{point_of}
 use Rattle.blocks.proofs.Laid.{get_in, get_before, get_after, where_is, length_laid}
 use Rattle.packedline.specs.Steps.Padded.{faced_byte, spare_of, blotted_by, copied_of, padded_of}
 use Rattle.packedline.proofs.Margins.{point_front, point_in, point_past}
-use Rattle.strokes.specs.Steps.Strokes.{room}
 use Rattle.sourceparts.specs.Steps.Shown.{pad_at, four_join}
 use Rattle.sourceparts.proofs.Shown.{pad_in, pad_before, pad_after, cells_rooms, runs_rooms}
-use Rattle.bitrooms.specs.Steps.Widened.{made_of, bits_widened}
+use Rattle.rooms.specs.Steps.Lanes.{widened_to}
+use Rattle.bitrooms.specs.Steps.Points.{bits_way}
 use Rattle.bitrooms.proofs.Windows.{split, widened_point, kept_point}
-use Rattle.bitparts.specs.Steps.Filled.{copied_in, padded_in, BitRooms}
+use Rattle.picture.specs.declared.Depth.TheVariants.{OneBit}
+use Rattle.picture.specs.Points.{value_in}
+use Rattle.bysource.specs.Steps.Filled.{RoomsOf}
+use Rattle.bitparts.specs.Steps.Filled.{copied_in, padded_in}
+use Rattle.bitparts.specs.Steps.Points.{windows_of}
 
 -- the padded row as it is made
 pub padded_made : (grows : Bool) (at : ℕ) (s : List ℕ) (w : ℕ) (b0 b1 b2 : List ℕ)
@@ -168,31 +172,35 @@ module _ (grows : Bool) (s : List ℕ) (w base : ℕ) (bytes : Bytes s) (some : 
   padded_length u e = ap length e ∙ length-set (copied_in grows (base + 8) s) _ _ ∙ mine_copied
 
 widened_long : (grows : Bool) (from to n d e f : ℕ) (b : List ℕ)
-    → length (bits_widened grows from to n d e f b) ≡ length b
-unfolding bits_widened
-widened_long grows from to n d e f b = length_laid to (made_of n) _ b
+    → length (widened_to bits_way grows from to n d e f b) ≡ length b
+unfolding widened_to
+widened_long grows from to n d e f b = length_laid to n _ b
 
 zero_plus : (p : ℕ) → 0 + p ≡ p
 zero_plus p = omega arith
 
-made_few : (n : ℕ) → made_of n ≤ 152
-made_few n = omega arith
-
-module _ (grows : Bool) (s : List ℕ) (w n : ℕ) (bytes : Bytes s) (some : 1 ≤ w) (few : w ≤ 1024)
+module _ (grows : Bool) (s : List ℕ) (w : ℕ) (bytes : Bytes s) (some : 1 ≤ w) (few : w ≤ 1024)
     (len : length s ≡ (w + 7) / 8) where
+  abbrev n : ℕ
+  n = windows_of w
+
+  made_few : n ≤ 152
+  made_few = omega arith
+
   -- ---- the rooms of single cells
   pub cells_filled : (u v : List ℕ) → Bytes u → u ≡ padded_in grows 8 s w
-      → v ≡ bits_widened grows 0 154 n 1 1 1 u → BitRooms grows 0 s w n v
+      → v ≡ widened_to bits_way grows 0 154 n 1 1 1 u → RoomsOf OneBit grows 0 s w (8 * n) v
+  unfolding value_in point_of
   cells_filled u v bu eu ev =
-      cells_rooms grows (pad_at grows 1 w (point_of s)) (point_of u) (point_of v) (8 * made_of n)
+      cells_rooms grows (pad_at grows 1 w (point_of s)) (point_of u) (point_of v) (8 * n)
       (λ q h. ap (point_of u) (sym (zero_plus q)) ∙ ap (λ l. point_of l (0 + q)) eu
-      ∙ padded grows s w 0 bytes some few len (omega arith) q (omega (arith, made_few n)))
+      ∙ padded grows s w 0 bytes some few len (omega arith) q (omega (arith, made_few)))
       (λ p h. ap (point_of v) (sym (zero_plus p)) ∙ ap (λ l. point_of l (0 + p)) ev
-      ∙ kept_point grows u bu 1 1 1 0 154 n (omega (arith, lu, made_few n)) 0 p
-      (omega (arith, lu, made_few n)) (inl (omega (arith, made_few n)))
+      ∙ kept_point grows u bu 1 1 1 0 154 n (omega (arith, lu, made_few)) 0 p
+      (omega (arith, lu, made_few)) (inl (omega (arith, made_few)))
       ∙ ap (point_of u) (zero_plus p))
       (λ p h. ap (λ l. point_of l (1232 + p)) ev
-      ∙ widened_point grows u bu 1 1 1 0 154 n (omega (arith, lu, made_few n)) p h
+      ∙ widened_point grows u bu 1 1 1 0 154 n (omega (arith, lu, made_few)) p h
       ∙ ap (four_join grows (point_of u) 1 1 1) (zero_plus p))
     where
       lu : length u ≡ 308
@@ -200,20 +208,21 @@ module _ (grows : Bool) (s : List ℕ) (w n : ℕ) (bytes : Bytes s) (some : 1 �
 
   -- ---- and of runs
   pub runs_filled : (u v x : List ℕ) → Bytes u → Bytes v → u ≡ padded_in grows 162 s w
-      → v ≡ bits_widened grows 154 0 n 1 2 3 u → x ≡ bits_widened grows 0 154 n 4 8 12 v
-      → BitRooms grows 1 s w n x
+      → v ≡ widened_to bits_way grows 154 0 n 1 2 3 u → x ≡ widened_to bits_way grows 0 154 n 4 8 12 v
+      → RoomsOf OneBit grows 1 s w (8 * n) x
+  unfolding value_in point_of
   runs_filled u v x bu bv eu ev ex =
-      runs_rooms grows (pad_at grows 1 w (point_of s)) (point_of u) (point_of v) (8 * made_of n) (point_of x)
+      runs_rooms grows (pad_at grows 1 w (point_of s)) (point_of u) (point_of v) (8 * n) (point_of x)
       (λ q h. ap (λ l. point_of l (1232 + q)) eu
-      ∙ padded grows s w 154 bytes some few len (omega arith) q (omega (arith, made_few n)))
+      ∙ padded grows s w 154 bytes some few len (omega arith) q (omega (arith, made_few)))
       (λ p h. ap (point_of v) (sym (zero_plus p)) ∙ ap (λ l. point_of l (0 + p)) ev
-      ∙ widened_point grows u bu 1 2 3 154 0 n (omega (arith, lu, made_few n)) p h)
+      ∙ widened_point grows u bu 1 2 3 154 0 n (omega (arith, lu, made_few)) p h)
       (λ p h. ap (point_of x) (sym (zero_plus p)) ∙ ap (λ l. point_of l (0 + p)) ex
-      ∙ kept_point grows v bv 4 8 12 0 154 n (omega (arith, lv, made_few n)) 0 p
-      (omega (arith, lv, made_few n)) (inl (omega (arith, made_few n)))
+      ∙ kept_point grows v bv 4 8 12 0 154 n (omega (arith, lv, made_few)) 0 p
+      (omega (arith, lv, made_few)) (inl (omega (arith, made_few)))
       ∙ ap (point_of v) (zero_plus p))
       (λ p h. ap (λ l. point_of l (1232 + p)) ex
-      ∙ widened_point grows v bv 4 8 12 0 154 n (omega (arith, lv, made_few n)) p h
+      ∙ widened_point grows v bv 4 8 12 0 154 n (omega (arith, lv, made_few)) p h
       ∙ ap (four_join grows (point_of v) 4 8 12) (zero_plus p))
     where
       lu : length u ≡ 308

@@ -1,2 +1,2 @@
--- How the work goes: windows of packed points in two rooms.
-pub mod Widened
+-- How the work goes: packed points at places of a room.
+pub mod Points

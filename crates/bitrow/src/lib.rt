@@ -79,10 +79,8 @@ pub fn make_row(
     ensures { t.new ≡ bit_row k s.now w h o words.now y.0 }
 {
     rows::begin(k.grows, 255, t);
-    let mut r = 0;
-    while r < o.h {
+    for r in 0..o.h {
         add_row(k, t, s, w, h, y, o, words, Bin(r as u16));
-        r += 1;
     }
     let n = t.len();
     packedline::blot(true, t, n - 1, w);

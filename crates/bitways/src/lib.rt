@@ -36,12 +36,10 @@ fn sweep_bits(plan: usize, s: &[u8], t: &mut [u8], w: usize, h: usize, words: &[
     let grows = plan::grows_of(plan);
     let k = Task { over: false, grows };
     let n = picture::row_bytes(Depth::OneBit, w);
-    let mut y = 0;
-    while y < h {
+    for y in 0..h {
         let a = y * n;
         let z = a + n;
         narrow::any_row(k, &mut t[a..z], &s[..], w, h, Bin(y as u16), o, &words[..]);
-        y += 1;
     }
 }
 
@@ -51,10 +49,8 @@ fn cells_in(words: &[RowWord], h: usize) -> usize
     ensures { result ≤ most_cells * most_cells }
 {
     let mut n = 0;
-    let mut r = 0;
-    while r < h {
+    for r in 0..h {
         n += packedline::cell_count(words[r]);
-        r += 1;
     }
     n
 }

@@ -8,7 +8,7 @@ ghost use Rattle.basics.specs.Lists.{firsts};
 ghost use Rattle.windows.specs.Steps.Widened.{widened_by, windows_of};
 ghost use Rattle.windows.specs.Steps.Places.{place_joined, gathered_at};
 ghost use Rattle.bytewindows.specs.Steps.Four.{Four};
-ghost use Rattle.bitwindows.specs.Steps.Widened.{widen_by};
+ghost use Rattle.windows.specs.Steps.Widened.{widen_by};
 
 // Windows of 4 points from single ones, or, again, of 16 from windows of 4: one block.
 fn widened(grows: bool, again: bool, b: &[u8], i: usize) -> [u8; blocks::BLOCK]
@@ -31,12 +31,10 @@ fn widen(grows: bool, again: bool, b: &mut [u8], k: usize)
     requires { 64 * k + 2 ≤ length b.old }
     ensures { b.new ≡ widened_by (widen_by grows again) k b.old }
 {
-    let mut j = 0;
-    while j < k {
+    for j in 0..k {
         let i = 64 * j;
         let c = widened(grows, again, b, i);
         blocks::put_block(b, i, c);
-        j += 1;
     }
 }
 
@@ -100,11 +98,9 @@ pub fn gather(grows: bool, b: &mut [u8], k: usize, p: usize, q: usize, r: usize,
     ensures { b.new
         ≡ widened_by (gathered_at grows (p ∷ q ∷ r ∷ s ∷ [])) k b.old }
 {
-    let mut j = 0;
-    while j < k {
+    for j in 0..k {
         let i = 64 * j;
         let c = four(grows, b, i, p, q, r, s);
         blocks::put_block(b, i, c);
-        j += 1;
     }
 }

@@ -3,17 +3,18 @@
 use Prim.Native.Nat.{ℕ, ◌+◌, ◌-◌, ◌≤◌, ◌<◌}
 use mathlib.Core.Path.{◌≡◌, refl, sym, ap, ap₂, ◌∙◌, subst}
 use mathlib.Core.Bool.{cond, ◌&&◌, and-false}
-use mathlib.Core.List.{List}
+use mathlib.Core.List.{List, ◌++◌}
 use mathlib.Core.Logic.{◌⊎◌, inl, inr, ⊎_elim}
 use native.Mathlib.Omega.{arith}
 use native.Mathlib.Nat.{eq-or-lt_of_le}
 use lib.Dec.{leb, ltb}
 use borrow.Author.Tests.{lt-ltb, le-ltb, le-leb, lt-leb}
-use lib.ListN.{length, get_or, set, length-set}
+use lib.ListN.{length, get_or, set, length-set, drop}
 use lib.Seq.{get_or-set_same, get_or-set_other}
+use borrow.Rule.Slice.PartMut.{put_mid}
 use Rattle.basics.specs.Lists.{firsts}
 use Rattle.basics.proofs.Lists.{length_firsts, get_d_firsts, list_is}
-use Rattle.basics.proofs.SliceParts.{below_or_not}
+use Rattle.basics.proofs.SliceParts.{below_or_not, put_before, put_within, put_after, put_length}
 use Rattle.blocks.specs.Steps.Laid.{laid_at, laid}
 
 -- ---- at one place
@@ -135,6 +136,20 @@ pub laid_whole : (n : ℕ) (f : ℕ → ℕ) (t u : List ℕ) → length t ≡ n
 laid_whole n f t u e q =
     list_is f n u (ap length q ∙ length_laid 0 n f t ∙ e)
     (λ i h. ap (λ l. get_or l i 0) q ∙ get_first n f t i (omega arith) h)
+
+-- a part written over: the k places from a on hold what was copied there
+pub laid_part : (a n k : ℕ) (f : ℕ → ℕ) (t ys : List ℕ) → k ≡ n → a + n ≤ length t → length ys ≡ n
+    → ((i : ℕ) → i < n → get_or ys i 0 ≡ f i) → put_mid a k t ys ≡ laid a n f t
+laid_part a n k f t ys e h len each =
+    ap (λ k. put_mid a k t ys) e
+    ∙ laid_is a n f t (put_mid a n t ys) (put_length a n t ys h len)
+    (λ i _ l. put_before a n t ys h len i l)
+    (λ i _ l. put_within a n t ys h len i l ∙ each i l)
+    (λ i _ l. put_after a n t ys h len i l)
+
+pub laid_front : (n : ℕ) (f : ℕ → ℕ) (t ys : List ℕ) → n ≤ length t → length ys ≡ n
+    → ((i : ℕ) → i < n → get_or ys i 0 ≡ f i) → ys ++ drop n t ≡ laid 0 n f t
+laid_front n f t ys h len each = laid_part 0 n n f t ys refl (omega arith) len each
 
 -- one part after another: a further part, next to what was set
 pub laid_next : (a n m : ℕ) (f g : ℕ → ℕ) (t u v : List ℕ) → a + n + m ≤ length t

@@ -33,10 +33,8 @@ fn spread(acc: u64, line: u64, cells: RowWord, w: usize) -> u64
     ensures { result ≡ spread_of acc line cells w }
 {
     let mut a = acc;
-    let mut c = 0;
-    while c < w {
+    for c in 0..w {
         a = a | moved(line, cells, Ping(c as u16));
-        c += 1;
     }
     a
 }
@@ -72,11 +70,9 @@ fn row(board: &[u64; SUMS], cells: &[RowWord; MOST_LINK_CELLS], w: usize, h: usi
     ensures { result ≡ row_of board.now cells.now w y.0 h }
 {
     let mut a = 0;
-    let mut r = 0;
-    while r < h {
+    for r in 0..h {
         let line = line_back(board, y, Bin(r as u16));
         a = spread_some(a, line, cells[r], w);
-        r += 1;
     }
     a
 }
@@ -126,10 +122,8 @@ fn step(
 {
     let m = mask(cut);
     let mut next = [0u64; SUMS];
-    let mut y = 0;
-    while y < SUMS {
+    for y in 0..SUMS {
         next[y] = cut_row(board, cells, w, h, m, cut, Bin(y as u16));
-        y += 1;
     }
     next
 }
@@ -189,8 +183,7 @@ pub fn reach(links: [Link; MOST_LINKS], k: usize, m: Bounds) -> Board
     let mut words = start();
     let mut column = 0;
     let mut row = 0;
-    let mut i = 0;
-    while i < k {
+    for i in 0..k {
         let e = links[i];
         let outline = e.outline;
         let o = outline.origin;
@@ -199,7 +192,6 @@ pub fn reach(links: [Link; MOST_LINKS], k: usize, m: Bounds) -> Board
         column = column + p.0 as usize;
         row = row + b.0 as usize;
         words = onward(&words, e, Sum { column, row }, m);
-        i += 1;
     }
     Board {
         words,

@@ -7,13 +7,14 @@ use native.Mathlib.Omega.{arith}
 use borrow.Author.Tests.{le-leb, le-ltb}
 use borrow.Rule.Slice.PartMut.{mid_of, put_mid, put_same}
 use lib.Dec.{eqb}
-use lib.ListN.{length, get_or, take, drop, replicate, length-append, length-drop}
-use lib.Seq.{take_at, drop_at, length-take-le, get_or-append-add, ext_get_or}
+use lib.ListN.{length, get_or, drop, replicate, length-drop}
+use lib.Seq.{ext_get_or}
+use Rattle.std.proofs.lemmas.Grind.{common_steps}
 use Rattle.basics.proofs.SliceParts.{put_before, put_after, put_length, get_mid, length_mid}
 use Rattle.answer.specs.Answer.{plain, is_done}
 use Rattle.answer.specs.Refuse.{refuse}
 use Rattle.answer.specs.Lent.{unless_refused}
-use Rattle.share.specs.Maps.{Map, Call, tests, map_answer, found, Reply, map_reply, map_after}
+use Rattle.share.specs.Maps.{Map, Call, map_answer, found, Reply, map_reply, map_after}
 use Rattle.book.specs.declared.Party.{Party}
 use Rattle.book.specs.declared.Party.TheVariants.{Display, Export}
 use Rattle.book.specs.History.{Maps, no_maps, maps_after}
@@ -21,8 +22,8 @@ use Rattle.share.specs.Work.{worked, share_after}
 use Rattle.book.specs.Book.{numbers, room, version, share_long, book_long, share_at, share_of}
 use Rattle.book.specs.Book.{with_share, marked, book_made, start_answer, fresh, started}
 use Rattle.book.specs.Book.{map_in, book_answer, book_handed, book_after}
-use Rattle.share.proofs.Shares.{Holds, holds_as, holds_made, length_replicate}
-use Rattle.share.proofs.Empty.{get_d_zeros, zero_holds}
+use Rattle.share.proofs.Shares.{Holds, holds_as, holds_made}
+use Rattle.share.proofs.Empty.{zero_holds}
 use Rattle.share.proofs.Steps.{same_reply, after_holds}
 
 -- ---- parts of a list of which another part is put anew
@@ -36,7 +37,7 @@ mid_same c j l k e h each =
 
 module _ (a k : ℕ) (b s : List ℕ) (fits : a + k ≤ length b) (e : length s ≡ k) where
   mid_put : mid_of a k (put_mid a k b s) ≡ s
-  mid_put = ap (take k) (drop_at (take a b) _ a (length-take-le a b (omega arith))) ∙ take_at s _ k e
+  mid_put = grind (arith, common_steps)
 
   mid_put_before : (c j : ℕ) → c + j ≤ a → mid_of c j (put_mid a k b s) ≡ mid_of c j b
   mid_put_before c j h =
@@ -189,18 +190,11 @@ marked_head l = refl
 
 zero_in : (n : ℕ) (l : List ℕ) (i : ℕ) → i < n
     → get_or ((69 ∷ 66 ∷ 75 ∷ version ∷ []) ++ (replicate n 0 ++ l)) (4 + i) 0 ≡ 0
-zero_in n l i h = get_or-append-add (69 ∷ 66 ∷ 75 ∷ version ∷ []) (replicate n 0 ++ l) i 0
-    ∙ get_d_zeros n l i h
+zero_in n l i h = grind (arith, common_steps)
 
 long_in : (n : ℕ) (l : List ℕ)
     → length ((69 ∷ 66 ∷ 75 ∷ version ∷ []) ++ (replicate n 0 ++ l)) ≡ 4 + n + length l
-long_in n l =
-    length-append (69 ∷ 66 ∷ 75 ∷ version ∷ []) (replicate n 0 ++ l)
-    ∙ ap (λ k. 4 + k) (length-append (replicate n 0) l ∙ ap (λ k. k + length l) (length_replicate n 0))
-    ∙ sum n (length l)
-  where
-    sum : (a b : ℕ) → 4 + (a + b) ≡ 4 + a + b
-    sum a b = omega arith
+long_in n l = grind (arith, common_steps)
 
 pub fresh_long : (b : List ℕ) → book_long ≤ length b → length (fresh b) ≡ length b
 unfolding fresh

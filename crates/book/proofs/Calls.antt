@@ -1,24 +1,27 @@
 -- The calls of the book: a share is a part of the bytes.
-use Prim.Native.Nat.{ℕ, zero, suc, ◌+◌, ◌-◌, ◌*◌, ◌≤◌, ◌<◌}
+use Prim.Native.Nat.{ℕ, ◌+◌, ◌-◌, ◌*◌, ◌≤◌, ◌<◌}
 use mathlib.Core.Path.{◌≡◌, refl, sym, ap, ap₂, ◌∙◌, subst}
 use mathlib.Core.Bool.{Bool, true, false, cond, not, ◌&&◌}
 use mathlib.Core.List.{List, [], ◌∷◌, ◌++◌}
 use native.Mathlib.Omega.{arith}
-use native.Mathlib.Nat.{sub-zero, add-sub_cancel_left}
-use borrow.Author.Tests.{leb-true, leb-false, lt-ltb, le-ltb, not-false}
+use native.Mathlib.Nat.{add-sub_cancel_left}
+use borrow.Author.Tests.{leb-true, lt-ltb, le-ltb, not-false}
 use borrow.Rule.Slice.PartMut.{mid_of, put_mid}
-use lib.Dec.{leb, eqb}
-use lib.ListN.{length, take, drop, replicate}
-use lib.Seq.{take-take, drop_at, drop-drop, length-take-le}
+use lib.Dec.{leb}
+use lib.ListN.{length, take, drop, replicate, length-append, length-drop}
+use lib.Seq.{take-take, drop-drop}
+use Rattle.std.proofs.lemmas.List.{drop-take}
 use Rattle.basics.proofs.SliceParts.{length_mid}
 use Rattle.basics.proofs.Tests.{both}
-use Rattle.share.specs.Share.{length_at, place_of, held_at, share_made, cleared}
-use Rattle.answer.specs.declared.Answer.TheVariants.{Done, Room, Book}
+use Rattle.share.specs.Share.{length_at, place_of, held_at, share_made}
+use Rattle.std.specs.Prelude.{Result, Ok, Err}
+use Rattle.answer.specs.declared.Refusal.{Refusal}
+use Rattle.answer.specs.declared.Refusal.TheVariants.{Room, Book}
 use Rattle.answer.specs.declared.Told.{Told}
-use Rattle.answer.specs.Answer.{plain, told, is_done}
-use Rattle.answer.specs.Refuse.{refuse}
+use Rattle.answer.specs.Answer.{plain, told, told_refusal, is_done}
 use Rattle.answer.specs.Lent.{unless_refused}
 use Rattle.answer.proofs.Order.{none_of}
+use Rattle.answer.proofs.Variants.{err_undone, ok_done, refused_undone, handed_on}
 use Rattle.share.specs.Maps.{Call, Get, found, map_answer}
 use Rattle.share.specs.Work.{worked, share_after}
 use Rattle.share.specs.Steps.Moves.{Within, Whole}
@@ -29,8 +32,9 @@ use Rattle.book.specs.declared.Found.{Found}
 use Rattle.book.specs.declared.Party.{Party}
 use Rattle.book.specs.declared.Party.TheVariants.{Display, Export}
 use Rattle.book.specs.Book.{numbers, room, version, share_at, share_long, book_long, share_of, with_share}
-use Rattle.book.specs.Book.{marked, book_made, start_tests, start_answer, fresh, started, map_in, book_tests}
-use Rattle.book.specs.Book.{book_answer, book_handed, book_after, book_place, FoundAt}
+use Rattle.book.specs.Book.{marked, book_made, start_answer, fresh, started, map_in, book_tests}
+use Rattle.book.specs.Book.{book_answer, book_handed, book_after, book_place, place_found, length_found}
+use Rattle.book.specs.Book.{FoundAt}
 use Rattle.book.proofs.Books.{share_fits, share_long_lem, answer_made, after_made, started_fresh}
 
 -- ---- what the layout tells
@@ -76,36 +80,15 @@ module _ (b : List ℕ) (p : Party) (at : ℕ) (e : at ≡ share_at p) where
   unfolding with_share
   placed x = ap₂ (λ n k. put_mid n k b x) e (add-sub_cancel_left at share_long)
 
-  module _ (made : book_made b ≡ true) where
-    pub part_whole : Whole numbers room part
-    part_whole = subst (λ (s : List ℕ). Whole numbers room s) (sym part_is) (share_whole b made p)
-
-    pub part_end : at + share_long ≤ length b
-    part_end = subst (λ n. n + share_long ≤ length b) (sym e) (share_fits p b (made_long b made))
-
-    pub call_answer : (c : Call) (t : Told) → t ≡ map_answer numbers room (held_at numbers part) c
-        → t ≡ book_answer b p c
-    call_answer c t q =
-        q ∙ ap (λ (s : List ℕ). map_answer numbers room (held_at numbers s) c) part_is
-        ∙ sym (answer_made b made p c)
-
-    pub call_after : (c : Call) (x : List ℕ) → x ≡ share_after numbers room part c
-        → put_mid at (at + share_long - at) b x ≡ book_after b p c
-    call_after c x q =
-        ap (put_mid at (at + share_long - at) b)
-        (q ∙ ap (λ (s : List ℕ). share_after numbers room s c) part_is)
-        ∙ placed (share_after numbers room (share_of b p) c)
-        ∙ sym (after_made b made p c)
-
 -- ---- BOOK
 module _ (b : List ℕ) (p : Party) (c : Call) (e : book_made b ≡ false) where
-  pub broken_answer : told Book ≡ book_answer b p c
-  unfolding told book_answer
+  pub broken_answer : told_refusal Book ≡ book_answer b p c
+  unfolding told_refusal book_answer
   broken_answer =
       ap (λ (t : Bool). cond (not t) (plain 17) (map_answer numbers room (map_in b p) c)) (sym e)
 
   refused : is_done (book_answer b p c) ≡ false
-  unfolding told plain
+  unfolding told_refusal plain
   refused = sym (ap is_done broken_answer)
 
   pub broken_after : b ≡ book_after b p c
@@ -115,6 +98,68 @@ module _ (b : List ℕ) (p : Party) (c : Call) (e : book_made b ≡ false) where
   pub broken_handed : book_handed b p c ≡ []
   unfolding book_handed unless_refused
   broken_handed = ap (λ t. cond t (found (map_in b p) c) []) refused
+
+-- ---- the place of the party's share, or BOOK
+module _ (b : List ℕ) (p : Party) (r : Result ℕ Refusal)
+    (e : r ≡ cond (book_made b) (Ok (share_at p)) (Err Book)) where
+  module _ (at : ℕ) (q : r ≡ Ok at) where
+    kept : (book_made b ≡ true) × (at ≡ share_at p)
+    kept = by (book_made b) refl (sym q ∙ e)
+      where
+        by : (t : Bool) → book_made b ≡ t
+            → ◌≡◌ {A = Result ℕ Refusal} (Ok at) (cond t (Ok (share_at p)) (Err Book))
+            → (book_made b ≡ true) × (at ≡ share_at p)
+        by true z o = (z, cc)
+        by false z o = cc
+
+    pub placed_at : at ≡ share_at p
+    placed_at = kept.1
+
+    pub part_whole : Whole numbers room (mid_of at (at + share_long - at) b)
+    part_whole =
+        subst (λ (s : List ℕ). Whole numbers room s) (sym (part_is b p at kept.1)) (share_whole b kept.0 p)
+
+    pub part_end : at + share_long ≤ length b
+    part_end = subst (λ n. n + share_long ≤ length b) (sym kept.1) (share_fits p b (made_long b kept.0))
+
+    pub call_answer : (c : Call) (t : Told)
+        → t ≡ map_answer numbers room (held_at numbers (mid_of at (at + share_long - at) b)) c
+        → t ≡ book_answer b p c
+    call_answer c t q =
+        q ∙ ap (λ (s : List ℕ). map_answer numbers room (held_at numbers s) c) (part_is b p at kept.1)
+        ∙ sym (answer_made b kept.0 p c)
+
+    pub call_after : (c : Call) (x : List ℕ)
+        → x ≡ share_after numbers room (mid_of at (at + share_long - at) b) c
+        → put_mid at (at + share_long - at) b x ≡ book_after b p c
+    call_after c x q =
+        ap (put_mid at (at + share_long - at) b)
+        (q ∙ ap (λ (s : List ℕ). share_after numbers room s c) (part_is b p at kept.1))
+        ∙ placed b p at kept.1 (share_after numbers room (share_of b p) c)
+        ∙ sym (after_made b kept.0 p c)
+
+  module _ (x : Refusal) (q : r ≡ Err x) where
+    broken : book_made b ≡ false
+    broken = by (book_made b) refl (sym q ∙ e)
+      where
+        by : (t : Bool) → book_made b ≡ t
+            → ◌≡◌ {A = Result ℕ Refusal} (Err x) (cond t (Ok (share_at p)) (Err Book)) → book_made b ≡ false
+        by true z o = cc
+        by false z o = z
+
+    -- what hands that refusal on says BOOK, as every call does
+    pub unplaced_told : {A : Type 0} (now : Result A Refusal) → (s : Refusal) × (now ≡ Err s) × (s ≡ x)
+        → (c : Call) → told now ≡ book_answer b p c
+    unfolding told
+    unplaced_told {A = A} now h c =
+        handed_on r now x q h
+        ∙ ap (λ (r : Result ℕ Refusal). told r)
+        (e ∙ ap (λ (t : Bool). cond t (Ok (share_at p)) (Err Book)) broken)
+        ∙ broken_answer b p c broken
+
+    -- and leaves the bytes
+    pub unplaced_after : (c : Call) → b ≡ book_after b p c
+    unplaced_after c = broken_after b p c broken
 
 -- ---- what is got
 module _ (b : List ℕ) (p : Party) (n : ℕ) (done : is_done (book_answer b p (Get n)) ≡ true) where
@@ -150,11 +195,11 @@ module _ (b : List ℕ) (p : Party) (n : ℕ) (done : is_done (book_answer b p (
       ∙ held_length numbers room (share_of b p)
       (whole_fits numbers room (share_of b p) (share_whole b got_made p)) n none_hold.1
 
-  pub found_held : (at : ℕ) → at ≡ share_at p → (r : Found) → told r.answer ≡ book_answer b p (Get n)
-      → r.place ≡ at + place_of numbers (mid_of at (at + share_long - at) b) n
-      → r.length ≡ length_at (mid_of at (at + share_long - at) b) n → FoundAt b p n r
-  unfolding book_place
-  found_held at e r a q l =
+  pub found_held : (at : ℕ) → at ≡ share_at p → plain 0 ≡ book_answer b p (Get n) → (f : Found)
+      → f.place ≡ at + place_of numbers (mid_of at (at + share_long - at) b) n
+      → f.length ≡ length_at (mid_of at (at + share_long - at) b) n → FoundAt b p n (Ok f)
+  unfolding told book_place place_found length_found
+  found_held at e a f q l =
       record {
         answer = a;
         place = q ∙ ap₂ (λ i (s : List ℕ). i + place_of numbers s n) e (part_is b p at e)
@@ -162,70 +207,71 @@ module _ (b : List ℕ) (p : Party) (n : ℕ) (done : is_done (book_answer b p (
         long = l ∙ ap (λ (s : List ℕ). length_at s n) (part_is b p at e) ∙ sym handed_long;
       }
 
-module _ (b : List ℕ) (p : Party) (n : ℕ) (r : Found) (a : told r.answer ≡ book_answer b p (Get n))
-    (no : is_done (told r.answer) ≡ false) where
+module _ (b : List ℕ) (p : Party) (n : ℕ) (x : Refusal) (a : told_refusal x ≡ book_answer b p (Get n)) where
   refused_get : is_done (book_answer b p (Get n)) ≡ false
-  refused_get = sym (ap is_done a) ∙ no
+  refused_get = sym (ap is_done a) ∙ refused_undone x
 
-  pub found_none : r.place ≡ 0 → r.length ≡ 0 → FoundAt b p n r
-  unfolding book_place book_handed unless_refused
-  found_none q l =
+  found_none : FoundAt b p n (Err x)
+  unfolding told book_place book_handed unless_refused place_found length_found
+  found_none =
       record {
         answer = a;
-        place = q ∙ ap (λ t. cond t (share_at p + place_of numbers (share_of b p) n) 0) (sym refused_get);
-        long = l ∙ ap (λ t. length (cond t (map_in b p n) [])) (sym refused_get);
+        place = ap (λ t. cond t (share_at p + place_of numbers (share_of b p) n) 0) (sym refused_get);
+        long = ap (λ t. length (cond t (map_in b p n) [])) (sym refused_get);
       }
+
+-- what is refused gives neither place nor length
+pub found_refused : (b : List ℕ) (p : Party) (n : ℕ) (r : Result Found Refusal) (x : Refusal) → r ≡ Err x
+    → told r ≡ book_answer b p (Get n) → FoundAt b p n r
+unfolding told
+found_refused b p n r x e a =
+    subst (λ (r : Result Found Refusal). FoundAt b p n r) (sym e)
+    (found_none b p n x (sym (ap (λ (r : Result Found Refusal). told r) e) ∙ a))
 
 -- ---- start
 module _ (b : List ℕ) (h : length b < book_long) where
-  pub start_answer_short : told Room ≡ start_answer b
-  unfolding told start_answer
+  pub start_answer_short : told_refusal Room ≡ start_answer b
+  unfolding told_refusal start_answer
   start_answer_short =
       ap (λ (t : Bool). cond t (plain 8) (plain 0)) (sym (lt-ltb (length b) book_long h))
 
   pub start_short : b ≡ started b
-  unfolding started unless_refused told plain
+  unfolding started unless_refused told_refusal plain
   start_short = ap (λ t. cond (is_done t) (fresh b) b) start_answer_short
 
-pub start_answer_lem : (b : List ℕ) → book_long ≤ length b → told Done ≡ start_answer b
-unfolding told start_answer
+pub start_answer_lem : (b : List ℕ) → book_long ≤ length b → plain 0 ≡ start_answer b
+unfolding start_answer
 start_answer_lem b h = ap (λ (t : Bool). cond t (plain 8) (plain 0)) (sym (le-ltb (length b) book_long h))
 
--- the share bytes cleared as one part, then the mark
-head_gone : (b y : List ℕ) (n : ℕ) → 4 ≤ length b → drop 4 (put_mid 4 n b y) ≡ y ++ drop (4 + n) b
-head_gone b y n h = drop_at (take 4 b) _ 4 (length-take-le 4 b h) ∙ ap (λ l. y ++ l) (drop-drop n 4 b)
+-- the mark over the first bytes, then the shares' bytes cleared
+marked_then : (b z : List ℕ) (n : ℕ) → put_mid 4 n ((69 ∷ 66 ∷ 75 ∷ version ∷ []) ++ drop 4 b) z
+    ≡ (69 ∷ 66 ∷ 75 ∷ version ∷ []) ++ (z ++ drop (4 + n) b)
+marked_then b z n = ap (λ (l : List ℕ). (69 ∷ 66 ∷ 75 ∷ version ∷ []) ++ (z ++ l)) (drop-drop n 4 b)
 
-zeros_are : (k : ℕ) (l : List ℕ) → length l ≡ k → cleared 0 l ≡ replicate k 0
-unfolding cleared
-zeros_are k l e = ap (λ n. replicate n 0) (ap (λ n. n - 0) e ∙ sub-zero k)
+shares_long : (b m : List ℕ) (n : ℕ) → 4 + n ≤ length b → length m ≡ 4
+    → length (mid_of 4 n (m ++ drop 4 b)) ≡ n
+shares_long b m n h e =
+    length_mid 4 n (m ++ drop 4 b) (omega (arith, length-append m (drop 4 b), length-drop 4 b))
 
-fresh_is : (b : List ℕ)
-    → (69 ∷ 66 ∷ 75 ∷ version ∷ []) ++ (replicate (2 * share_long) 0 ++ drop (4 + 2 * share_long) b) ≡ fresh b
+pub start_is : (b m z : List ℕ) → book_long ≤ length b → m ≡ (69 ∷ 66 ∷ 75 ∷ version ∷ [])
+    → z ≡ replicate (length (mid_of 4 (2 * share_long) (m ++ drop 4 b))) 0
+    → put_mid 4 (2 * share_long) (m ++ drop 4 b) z ≡ started b
 unfolding fresh
-fresh_is b = refl
-
-pub start_is : (b x u : List ℕ) → book_long ≤ length b → x ≡ cleared 0 (mid_of 4 (2 * share_long) b)
-    → u ≡ (69 ∷ 66 ∷ 75 ∷ version ∷ []) ++ drop 4 (put_mid 4 (2 * share_long) b x) → u ≡ started b
-start_is b x u h ex eu =
-    eu
-    ∙ ap (λ (l : List ℕ). (69 ∷ 66 ∷ 75 ∷ version ∷ []) ++ l) (head_gone b x (2 * share_long) (omega arith))
-    ∙ ap (λ (l : List ℕ). (69 ∷ 66 ∷ 75 ∷ version ∷ []) ++ (l ++ drop (4 + 2 * share_long) b))
-    (ex ∙ zeros_are (2 * share_long) (mid_of 4 (2 * share_long) b)
-    (length_mid 4 (2 * share_long) b (omega arith)))
-    ∙ fresh_is b
+start_is b m z h em ez =
+    ap₂ (λ (m z : List ℕ). put_mid 4 (2 * share_long) (m ++ drop 4 b) z) em
+    (ez ∙ ap (λ n. replicate n 0) (shares_long b m (2 * share_long) (omega arith) (ap length em)))
+    ∙ marked_then b (replicate (2 * share_long) 0) (2 * share_long)
     ∙ sym (started_fresh b h)
 
 -- ---- the part that get hands back
 -- a part of a part is a part of the whole
-cut : (p n k : ℕ) (l : List ℕ) → p + n ≤ k → take n (drop p (take k l)) ≡ take n (drop p l)
-cut zero n k l h = take-take n k l (omega arith)
-cut (suc p) n zero l h = absurd (omega arith)
-cut (suc p) n (suc k) [] h = refl
-cut (suc p) n (suc k) (x ∷ l) h = cut p n k l (omega arith)
-
 part_of_part : (a k p n : ℕ) (b : List ℕ) → p + n ≤ k
     → take n (drop p (mid_of a k b)) ≡ take n (drop (a + p) b)
-part_of_part a k p n b h = cut p n k (drop a b) h ∙ ap (take n) (drop-drop p a b)
+part_of_part a k p n b h =
+    let e : k ≡ p + (k - p) = omega arith in
+    ap (λ i. take n (drop p (take i (drop a b)))) e
+    ∙ ap (take n) (drop-take p (k - p) (drop a b) ∙ ap (take (k - p)) (drop-drop p a b))
+    ∙ take-take n (k - p) (drop (a + p) b) (omega arith)
 
 module _ (b : List ℕ) (p : Party) (n : ℕ) (done : is_done (book_answer b p (Get n)) ≡ true) where
   -- number n ends within the share
@@ -278,32 +324,33 @@ module _ (b : List ℕ) (p : Party) (n : ℕ) where
           let l = ap length (none_handed e) in
           omega arith
 
-module _ (b : List ℕ) (p : Party) (n : ℕ) (r : Found) (f : FoundAt b p n r) where
-  pub found_small : r.place + r.length ≤ book_long
+module _ (b : List ℕ) (p : Party) (n : ℕ) (r : Result Found Refusal) (f : FoundAt b p n r) where
+  pub found_small : place_found r + length_found r ≤ book_long
   found_small = let h = handed_small b p n in omega (arith, f.place, f.long)
 
   -- what is found lies in the buffer, and is what get hands back
-  abbrev Part : Type 0
-  Part = (r.place + r.length ≤ length b)
-      × (take (r.place + r.length - r.place) (drop r.place b) ≡ book_handed b p (Get n))
+  pub found_part : (at : Found) → r ≡ Ok at
+      → (at.place ≡ book_place b p n) × (at.place + at.length ≤ length b)
+      × (take (at.place + at.length - at.place) (drop at.place b) ≡ book_handed b p (Get n))
+  unfolding place_found length_found
+  found_part at e =
+      let done = sym (ap is_done f.answer) ∙ ok_done r at e in
+      let is = sym (ap place_found e) ∙ f.place in
+      let q = is ∙ place_by b p n true done in
+      let l = sym (ap length_found e) ∙ f.long ∙ handed_long b p n done in
+      let h = in_book b p n done in
+      let g = made_long b (got_made b p n done) in (
+        is,
+        omega arith,
+        ap (λ i. take i (drop at.place b)) (add-sub_cancel_left at.place at.length)
+            ∙ ap₂ (λ i j. take i (drop j b)) l q ∙ got_part b p n done,
+      )
 
-  pub found_part : Part
-  found_part = by (is_done (book_answer b p (Get n))) refl
-    where
-      by : (t : Bool) → is_done (book_answer b p (Get n)) ≡ t → Part
-      by true e =
-          let q = f.place ∙ place_by b p n true e in
-          let l = f.long ∙ handed_long b p n e in
-          let h = in_book b p n e in
-          let g = made_long b (got_made b p n e) in (
-            omega arith,
-            ap (λ i. take i (drop r.place b)) (add-sub_cancel_left r.place r.length)
-                ∙ ap₂ (λ i j. take i (drop j b)) l q ∙ got_part b p n e,
-          )
-      by false e =
-          let q = f.place ∙ place_by b p n false e in
-          let l = f.long ∙ ap length (none_handed b p n e) in (
-            omega arith,
-            ap (λ i. take i (drop r.place b)) (add-sub_cancel_left r.place r.length)
-                ∙ ap (λ i. take i (drop r.place b)) l ∙ sym (none_handed b p n e),
-          )
+  -- and where nothing is found, get hands back nothing, at the buffer's start
+  pub found_nothing : (x : Refusal) → r ≡ Err x
+      → ((k : ℕ) → k ≡ book_place b p n + k) × ([] ≡ book_handed b p (Get n))
+  unfolding place_found
+  found_nothing x e = (
+    λ k. let q = sym (ap place_found e) ∙ f.place in omega arith,
+    sym (none_handed b p n (sym (ap is_done f.answer) ∙ err_undone r x e)),
+  )

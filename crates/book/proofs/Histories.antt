@@ -1,11 +1,11 @@
 -- The theorems of document 02, (vi) and (vii), over any list of calls after a start, by the definitions.
 use Prim.Native.Nat.{ℕ, ◌≤◌}
 use mathlib.Core.Path.{◌≡◌, refl, sym, ap, ap₂, ◌∙◌}
-use mathlib.Core.Bool.{Bool, true, false, cond, not}
+use mathlib.Core.Bool.{true, false}
 use mathlib.Core.List.{List, [], ◌∷◌}
 use lib.ListN.{length}
-use Rattle.answer.specs.declared.Answer.TheVariants.{Book}
-use Rattle.answer.specs.Answer.{plain, told}
+use Rattle.answer.specs.declared.Refusal.TheVariants.{Book}
+use Rattle.answer.specs.Answer.{plain, told_refusal}
 use Rattle.share.specs.Maps.{empty, Call, Tidy, Reply, map_reply, map_after, map_replies}
 use Rattle.share.proofs.Steps.{no_book}
 use Rattle.book.specs.declared.Party.{Party}
@@ -90,7 +90,7 @@ module _ (b : List ℕ) (long : book_long ≤ length b) where
 
 -- ---- bytes that break the layout: every call answers BOOK, and they stay
 pub broken : Reply
-broken = (told Book, [])
+broken = (told_refusal Book, [])
 
 pub refused_all : List Call → List Reply
 refused_all [] = []

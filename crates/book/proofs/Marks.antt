@@ -2,32 +2,41 @@
 use Prim.Native.Nat.{ℕ, ◌≤◌, ◌<◌}
 use mathlib.Core.Path.{◌≡◌, refl, sym, ap, ◌∙◌}
 use mathlib.Core.Bool.{Bool, true, false, ◌&&◌}
-use mathlib.Core.List.{List}
-use borrow.Author.Tests.{eq-eqb, ne_eqb, le-leb, lt-leb}
+use mathlib.Core.List.{List, [], ◌∷◌}
+use Rattle.std.proofs.lemmas.Grind.{common_steps}
+use Rattle.std.specs.List.{starts_with}
+use native.Mathlib.Omega.{arith}
+use borrow.Author.Tests.{ne_eqb, lt-leb}
 use lib.Dec.{leb, eqb}
 use lib.ListN.{length, get_or}
 use Rattle.share.specs.Share.{share_made}
 use Rattle.book.specs.declared.Party.TheVariants.{Display, Export}
 use Rattle.book.specs.Book.{numbers, room, version, book_long, share_of, marked, book_made}
 
--- ---- the mark, byte by byte
-module _ (l : List ℕ) where
-  pub mark_first : (get_or l 0 0 ≡ 69 → ⊥) → false ≡ marked l
-  unfolding marked
-  mark_first h = simp (ne_eqb (get_or l 0 0) 69 h)
+-- ---- the mark, as the first bytes
+and_flat : (a b c d : Bool) → a && (b && (c && (d && true))) ≡ a && b && c && d
+and_flat true true true true = refl
+and_flat true true true false = refl
+and_flat true true false d = refl
+and_flat true false c d = refl
+and_flat false b c d = refl
 
-  pub mark_second : get_or l 0 0 ≡ 69 → (get_or l 1 0 ≡ 66 → ⊥) → false ≡ marked l
-  unfolding marked
-  mark_second a h = simp (eq-eqb (get_or l 0 0) 69 a, ne_eqb (get_or l 1 0) 66 h)
+eqb_turned : (a b : ℕ) → eqb a b ≡ eqb b a
+eqb_turned a b = by (eqb a b) refl
+  where
+    by : (t : Bool) → eqb a b ≡ t → t ≡ eqb b a
+    by true e = grind (arith, common_steps)
+    by false e = grind (arith, common_steps)
 
-  pub mark_third : get_or l 0 0 ≡ 69 → get_or l 1 0 ≡ 66 → (get_or l 2 0 ≡ 75 → ⊥) → false ≡ marked l
-  unfolding marked
-  mark_third a b h = simp (eq-eqb (get_or l 0 0) 69 a, eq-eqb (get_or l 1 0) 66 b, ne_eqb (get_or l 2 0) 75 h)
-
-  pub mark_last : get_or l 0 0 ≡ 69 → get_or l 1 0 ≡ 66 → get_or l 2 0 ≡ 75 → eqb (get_or l 3 0) version
-      ≡ marked l
-  unfolding marked
-  mark_last a b c = simp (eq-eqb (get_or l 0 0) 69 a, eq-eqb (get_or l 1 0) 66 b, eq-eqb (get_or l 2 0) 75 c)
+pub marked_is : (b : List ℕ) → 4 ≤ length b → starts_with eqb b (69 ∷ 66 ∷ 75 ∷ version ∷ []) ≡ marked b
+unfolding marked
+marked_is [] h = absurd (omega arith)
+marked_is (x ∷ []) h = absurd (omega arith)
+marked_is (x ∷ y ∷ []) h = absurd (omega arith)
+marked_is (x ∷ y ∷ z ∷ []) h = absurd (omega arith)
+marked_is (x ∷ y ∷ z ∷ w ∷ l) h =
+    and_flat (eqb 69 x) (eqb 66 y) (eqb 75 z) (eqb version w)
+    ∙ λ i. eqb_turned 69 x i && eqb_turned 66 y i && eqb_turned 75 z i && eqb_turned version w i
 
 -- ---- the layout of the book, test by test
 module _ (b : List ℕ) where
@@ -37,24 +46,6 @@ module _ (b : List ℕ) where
       ap (λ (t : Bool). t && marked b && share_made numbers room (share_of b Display)
       && share_made numbers room (share_of b Export))
       (sym (lt-leb book_long (length b) h))
-
-  module _ (h : book_long ≤ length b) where
-    book_by : (m d e : Bool) → m ≡ marked b → d ≡ share_made numbers room (share_of b Display)
-        → e ≡ share_made numbers room (share_of b Export) → ((true && m) && d) && e ≡ book_made b
-    unfolding book_made
-    book_by m d e p q r =
-        λ i. ((sym (le-leb book_long (length b) h) i && p i) && q i) && r i
-
-    pub book_unmarked : false ≡ marked b → false ≡ book_made b
-    book_unmarked p = book_by false _ _ p refl refl
-
-    module _ (p : true ≡ marked b) where
-      pub book_display : false ≡ share_made numbers room (share_of b Display) → false ≡ book_made b
-      book_display q = book_by true false _ p q refl
-
-      pub book_export : true ≡ share_made numbers room (share_of b Display) → (e : Bool)
-          → e ≡ share_made numbers room (share_of b Export) → e ≡ book_made b
-      book_export q e r = book_by true true e p q r
 
 -- a book of another version, as that of one party was, breaks this layout
 pub old_breaks : (b : List ℕ) → (get_or b 3 0 ≡ version → ⊥) → book_made b ≡ false

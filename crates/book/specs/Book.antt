@@ -1,7 +1,8 @@
 -- Document 02, (vi) and (vii): the book of two parties, and each call of it, for all bytes.
 -- Bytes 0 to 3 are the letters EBK and the version; then the share of the display, then that of the export.
 use Rattle.std.specs.Prelude.{ℕ, ◌+◌, ◌*◌, ◌≡◌, Bool, cond, not, ◌&&◌, List, [], ◌∷◌, ◌++◌, leb, ltb, eqb}
-use Rattle.std.specs.Prelude.{length, get_or, take, drop, replicate}
+use Rattle.std.specs.Prelude.{Result, Ok, Err, length, get_or, take, drop, replicate}
+use Rattle.answer.specs.declared.Refusal.{Refusal}
 use Rattle.answer.specs.declared.Told.{Told}
 use Rattle.answer.specs.Answer.{plain, told, is_done}
 use Rattle.answer.specs.Refuse.{Test, refuse}
@@ -91,8 +92,17 @@ book_place b p n = cond (is_done (book_answer b p (Get n))) (share_at p + place_
 abbrev pub place_in : List ℕ → Party → ℕ → ℕ × ℕ → ℕ × ℕ
 place_in b p n at = (at.0, book_place b p n + at.1)
 
+-- the place and the length of what is found, 0 and 0 where it is refused
+unfoldable pub place_found : Result Found Refusal → ℕ
+place_found (Ok f) = f.place
+place_found (Err r) = 0
+
+unfoldable pub length_found : Result Found Refusal → ℕ
+length_found (Ok f) = f.length
+length_found (Err r) = 0
+
 -- the call beside get: its answer, and the place and the length of what get hands back
-pub record FoundAt (b : List ℕ) (p : Party) (n : ℕ) (r : Found) : Type 0 where
-  pub answer : told r.answer ≡ book_answer b p (Get n)
-  pub place : r.place ≡ book_place b p n
-  pub long : r.length ≡ length (book_handed b p (Get n))
+pub record FoundAt (b : List ℕ) (p : Party) (n : ℕ) (r : Result Found Refusal) : Type 0 where
+  pub answer : told r ≡ book_answer b p (Get n)
+  pub place : place_found r ≡ book_place b p n
+  pub long : length_found r ≡ length (book_handed b p (Get n))

@@ -1,5 +1,5 @@
 -- Histories: calls of both parties one after another, the two plain maps, and what one party sees.
-use Rattle.std.specs.Prelude.{ℕ, Bool, true, false, cond, List, [], ◌∷◌}
+use Rattle.std.specs.Prelude.{Bool, true, false, cond, List, [], ◌∷◌}
 use Rattle.share.specs.Maps.{Map, Call, Reply, map_reply, map_after}
 use Rattle.book.specs.declared.Party.{Party}
 use Rattle.book.specs.declared.Party.TheVariants.{Display, Export}

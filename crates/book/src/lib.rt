@@ -2,14 +2,15 @@
 // Nothing is asked of the caller: bytes that are no book, or a damaged one, are refused by BOOK.
 #![tactic(auto)]
 
-ghost use Rattle.std.specs.Prelude.{◌≡◌, [], ◌∷◌, ◌++◌, ◌≤◌, length, drop};
+ghost use Rattle.std.specs.Prelude.{◌≡◌, ◌≤◌, cond, Ok, Err, length};
+ghost use Rattle.answer.specs.declared.Refusal.TheVariants.{Book};
 ghost use Rattle.answer.specs.Answer.{told};
 ghost use Rattle.share.specs.Maps.{Put, Get, Remove, Tidy};
-ghost use Rattle.book.specs.Book.{book_long, share_at, version, marked, book_made};
+ghost use Rattle.book.specs.Book.{book_long, share_at, marked, book_made};
 ghost use Rattle.book.specs.Book.{start_answer, started};
 ghost use Rattle.book.specs.Book.{book_answer, book_handed, book_after, place_in, FoundAt};
 
-use answer::Answer;
+use answer::{Answer, Refusal};
 
 // Whose numbers they are.
 #[derive(Clone, Copy)]
@@ -33,11 +34,12 @@ const SHARE: usize = 2 * NUMBERS + ROOM;
 
 pub const BOOK: usize = HEAD + 2 * SHARE;
 
-// What is found under a number: the answer, and the place and the length of the descriptor in the book,
-// 0 and 0 where it is refused.
+// The letters EBK and the version.
+const MARK: [u8; HEAD] = [b'E', b'B', b'K', VERSION];
+
+// What is found under a number: the place and the length of the descriptor in the book.
 #[derive(Clone, Copy)]
 pub struct Found {
-    pub answer: Answer,
     pub place: usize,
     pub length: usize,
 }
@@ -57,43 +59,29 @@ fn is_marked(book: &[u8]) -> bool
     requires { 4 ≤ length book.now }
     ensures { result ≡ marked book.now }
 {
-    if book[0] != b'E' {
-        return false;
-    }
-    if book[1] != b'B' {
-        return false;
-    }
-    if book[2] != b'K' {
-        return false;
-    }
-    book[3] == VERSION
+    book.starts_with(&MARK)
 }
 
 // The layout, of both shares whoever asks.
+#[tactic(auto, unfolding(crate::specs::Book::book_made, crate::specs::Book::share_of))]
 fn book_made(book: &[u8]) -> bool
     ensures { result ≡ book_made book.now }
 {
-    if book.len() < BOOK {
-        return false;
-    }
-    if is_marked(book) {
-        if share::made(&book[HEAD..HEAD + SHARE], NUMBERS, ROOM) {
-            return share::made(&book[HEAD + SHARE..BOOK], NUMBERS, ROOM);
-        }
-        return false;
-    }
-    false
+    BOOK <= book.len()
+        && is_marked(book)
+        && share::made(&book[HEAD..HEAD + SHARE], NUMBERS, ROOM)
+        && share::made(&book[HEAD + SHARE..BOOK], NUMBERS, ROOM)
 }
 
-// The mark, over the first four bytes.
-fn set_mark(book: &mut [u8])
-    requires { 4 ≤ length book.old }
-    ensures { book.new ≡ (69 ∷ 66 ∷ 75 ∷ version ∷ []) ++ drop 4 book.old }
+// Where a party's share begins, in a book that keeps the layout; else BOOK.
+fn share_in(book: &[u8], party: Party) -> Result<usize, Refusal>
+    ensures { result ≡ cond (book_made book.now) (Ok (share_at party)) (Err Book) }
 {
-    book[0] = b'E';
-    book[1] = b'B';
-    book[2] = b'K';
-    book[3] = VERSION;
+    if book_made(book) {
+        Ok(share_at(party))
+    } else {
+        Err(Refusal::Book)
+    }
 }
 
 // A book that holds nothing for either party, whatever the bytes were; ROOM where the buffer is too short.
@@ -102,11 +90,11 @@ pub fn start(book: &mut [u8]) -> Answer
     ensures bytes { book.new ≡ started book.old }
 {
     if book.len() < BOOK {
-        return Answer::Room;
+        return Err(Refusal::Room);
     }
-    share::clear_from(&mut book[HEAD..BOOK], 0);
-    set_mark(book);
-    Answer::Done
+    book[..HEAD].copy_from_slice(&MARK);
+    book[HEAD..BOOK].fill(0);
+    Ok(())
 }
 
 // The descriptor d under a party's number n: BOOK, ABSENT for a number above 7, SHAPE, FULL.
@@ -114,12 +102,8 @@ pub fn put(book: &mut [u8], party: Party, n: usize, d: &[u8]) -> Answer
     ensures answer { told result ≡ book_answer book.old party (Put n d.now) }
     ensures bytes { book.new ≡ book_after book.old party (Put n d.now) }
 {
-    if book_made(&book[..]) {
-        let at = share_at(party);
-        let end = at + SHARE;
-        return sharework::put(&mut book[at..end], NUMBERS, ROOM, n, d);
-    }
-    Answer::Book
+    let at = share_in(&book[..], party)?;
+    sharework::put(&mut book[at..at + SHARE], NUMBERS, ROOM, n, d)
 }
 
 // What a party's number n holds, given up: BOOK, ABSENT.
@@ -127,12 +111,8 @@ pub fn remove(book: &mut [u8], party: Party, n: usize) -> Answer
     ensures answer { told result ≡ book_answer book.old party (Remove n) }
     ensures bytes { book.new ≡ book_after book.old party (Remove n) }
 {
-    if book_made(&book[..]) {
-        let at = share_at(party);
-        let end = at + SHARE;
-        return sharework::remove(&mut book[at..end], NUMBERS, ROOM, n);
-    }
-    Answer::Book
+    let at = share_in(&book[..], party)?;
+    sharework::remove(&mut book[at..at + SHARE], NUMBERS, ROOM, n)
 }
 
 // The spare bytes of a party's share to 0: BOOK.
@@ -140,48 +120,21 @@ pub fn tidy(book: &mut [u8], party: Party) -> Answer
     ensures answer { told result ≡ book_answer book.old party Tidy }
     ensures bytes { book.new ≡ book_after book.old party Tidy }
 {
-    if book_made(&book[..]) {
-        let at = share_at(party);
-        let end = at + SHARE;
-        share::tidy(&mut book[at..end], NUMBERS, ROOM);
-        return Answer::Done;
-    }
-    Answer::Book
+    let at = share_in(&book[..], party)?;
+    share::tidy(&mut book[at..at + SHARE], NUMBERS, ROOM);
+    Ok(())
 }
 
-// The answer of a get: BOOK, ABSENT.
-fn get_answer(book: &[u8], party: Party, n: usize) -> Answer
-    ensures { told result ≡ book_answer book.now party (Get n) }
-{
-    if book_made(book) {
-        let at = share_at(party);
-        let end = at + SHARE;
-        return share::absent_refusal(&book[at..end], NUMBERS, ROOM, n);
-    }
-    Answer::Book
-}
-
-// The call beside `get`: its answer, and where the descriptor lies.
-pub fn find(book: &[u8], party: Party, n: usize) -> Found
+// The call beside `get`: BOOK, ABSENT, or where the descriptor lies.
+pub fn find(book: &[u8], party: Party, n: usize) -> Result<Found, Refusal>
     ensures { FoundAt book.now party n result }
 {
-    let no = get_answer(book, party, n);
-    if answer::is_done(no) {
-        let base = share_at(party);
-        let end = base + SHARE;
-        let place = base + share::place_of(&book[base..end], NUMBERS, n);
-        let length = share::length_at(&book[base..end], n);
-        return Found {
-            answer: no,
-            place,
-            length,
-        };
-    }
-    Found {
-        answer: no,
-        place: 0,
-        length: 0,
-    }
+    let at = share_in(book, party)?;
+    let share = &book[at..at + SHARE];
+    share::absent_refusal(share, NUMBERS, ROOM, n)?;
+    let place = at + share::place_of(share, NUMBERS, n);
+    let length = share::length_at(share, n);
+    Ok(Found { place, length })
 }
 
 // The descriptor's own bytes in the book, or the empty start of the buffer where `find` refuses.
@@ -189,8 +142,8 @@ pub fn get<'a>(book: &'a [u8], party: Party, n: usize) -> &'a [u8]
     ensures bytes { result.now ≡ book_handed book.now party (Get n) }
     ensures place { result.ref_ptr ≡ place_in book.now party n book.entry.ref_ptr }
 {
-    let at = find(book, party, n);
-    let from = at.place;
-    let end = from + at.length;
-    &book[from..end]
+    match find(book, party, n) {
+        Ok(at) => &book[at.place..at.place + at.length],
+        Err(_) => &book[..0],
+    }
 }

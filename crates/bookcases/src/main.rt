@@ -3,30 +3,25 @@
 // tools/cases makes the lines, says what their letters and numbers mean, and makes what must be printed.
 #![tactic(auto)]
 
-use answer::Answer;
 use book::Party;
 use std::io;
 
 fn party_of(who: usize) -> Party {
-    if who == 1 {
-        return Party::Export;
+    match who {
+        1 => Party::Export,
+        _ => Party::Display,
     }
-    Party::Display
 }
 
 fn got(rt: &impl Print, book: &[u8], party: Party, n: usize) -> io::Result<()> {
-    let found = book::find(book, party, n);
-    let said: Answer = found.answer;
-    show::answered(rt, said)?;
+    show::answered(rt, book::find(book, party, n).map(|_| ()))?;
     show::buffer(rt, b"got", book::get(book, party, n))
 }
 
 // Byte n becomes the first of the element's: a book that is damaged.
 fn damaged(book: &mut [u8], n: usize, element: &[u8]) {
-    if n < book.len() {
-        if 0 < element.len() {
-            book[n] = element[0];
-        }
+    if n < book.len() && 0 < element.len() {
+        book[n] = element[0];
     }
 }
 
@@ -72,10 +67,8 @@ fn each_call(
     book: &mut [u8],
 ) -> io::Result<()> {
     let mut next = at;
-    let mut i = 0;
-    while i < calls {
+    for _ in 0..calls {
         next = one(rt, line, next, book)?;
-        i += 1;
     }
     Ok(())
 }
@@ -87,7 +80,10 @@ fn run(rt: &impl Print, line: &[u8], at: usize, calls: usize, book: &mut [u8]) -
 }
 
 // A label, or a history and the buffer that it lends.
-fn history(rt: &impl Print, letter: u8, line: &[u8]) -> io::Result<()> {
+fn history(rt: &impl Print, line: &[u8]) -> io::Result<()> {
+    let Some(&letter) = line.first() else {
+        return Ok(());
+    };
     if letter == b'#' {
         return show::text(rt, line);
     }
@@ -98,11 +94,8 @@ fn history(rt: &impl Print, letter: u8, line: &[u8]) -> io::Result<()> {
 }
 
 fn each_line(rt: &impl Print, input: &[u8]) -> io::Result<()> {
-    let mut at = 0;
-    while at < input.len() {
-        let end = numbers::line_end(input, at);
-        history(rt, input[at], &input[at..end])?;
-        at = end;
+    for line in input.split_inclusive(|b| *b == b'\n') {
+        history(rt, line)?;
     }
     Ok(())
 }

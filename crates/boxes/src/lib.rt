@@ -12,12 +12,11 @@ pub fn is_box(words: &[RowWord], o: Outline) -> bool
     ensures { result ≡ is_box words.now o.h o.w }
 {
     let run = packedline::run_word(o.w);
-    let mut r = 0;
-    while r < o.h {
+    // Row by row, as the promise is: tried with `all` of the words, and its proof did not close.
+    for r in 0..o.h {
         if words[r] != run {
             return false;
         }
-        r += 1;
     }
     true
 }

@@ -35,10 +35,8 @@ pub fn copy_from(row: &mut [u8], t: &[u8], at: usize)
     ensures { row.new
         ≡ firsts (λ i. get_or t.now (at + i) 0) (length row.old) }
 {
-    let mut i = 0;
-    while i < row.len() {
+    for i in 0..row.len() {
         row[i] = t[at + i];
-        i += 1;
     }
 }
 

@@ -5,13 +5,6 @@ ghost use Rattle.std.specs.Prelude.{◌≡◌, ◌-◌, length};
 ghost use Rattle.basics.specs.Lists.{firsts};
 ghost use Rattle.boxseen.specs.Steps.Seen.{upper_at, lower_at, LeadFit};
 
-// How far a lies past b.
-fn past(a: usize, b: usize) -> usize
-    ensures { result ≡ a - b }
-{
-    if a < b { 0 } else { a - b }
-}
-
 // In `one` the rows that row y sees, joined, and in `other` those that row z sees; o is the origin's row, of
 // `high`. The rows that both see are joined once.
 pub fn lead(
@@ -35,7 +28,7 @@ pub fn lead(
         (length one.old) }
 {
     let above = boxrow::before(grows, o, high);
-    let lo = past(z, above);
+    let lo = z.saturating_sub(above);
     let end = basics::lesser(y + high - above, h);
     let last = basics::lesser(z + high - above - 1, h - 1);
     let n = one.len();
@@ -45,7 +38,7 @@ pub fn lead(
         &s[..h * n],
         one,
         other,
-        past(y, above),
+        y.saturating_sub(above),
         lo,
         end - lo,
         last,

@@ -52,8 +52,7 @@ fn list_rows(
     let origin = o.origin;
     let column = origin.ping;
     let c = column.0 as usize;
-    let mut i = 0;
-    while i < n {
+    for i in 0..n {
         let r = from + i;
         let a = i * o.w;
         let z = a + o.w;
@@ -69,7 +68,6 @@ fn list_rows(
         );
         ups[i] = k.rising as u8;
         downs[i] = k.others as u8;
-        i += 1;
     }
 }
 
@@ -242,13 +240,11 @@ fn source_row(
     let row = row_of(s, w, v);
     fill(grows, &mut b, row);
     let bold = few_ends(grows, row);
-    let mut i = 0;
-    while i < n {
+    for i in 0..n {
         add_row(
             grows, bold, t, marks, w, h, &b, v, o, rising, others, ups, downs, from, n, i, words,
             hs, s,
         );
-        i += 1;
     }
 }
 
@@ -288,8 +284,7 @@ fn sweep_rows(
         from,
         n,
     );
-    let mut v = 0;
-    while v < h {
+    for v in 0..h {
         source_row(
             grows,
             t,
@@ -308,7 +303,6 @@ fn sweep_rows(
             hs,
             s,
         );
-        v += 1;
     }
 }
 

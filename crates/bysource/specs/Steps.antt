@@ -1,2 +1,3 @@
--- How the work goes: rooms of bytes.
+-- How the work goes: what two rooms show of a source row.
 pub mod Filled
+pub mod Bytes

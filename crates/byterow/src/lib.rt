@@ -71,9 +71,7 @@ pub fn make_row(
         ≡ byte_row grows s.now w h o words.now heights.now y.0 }
 {
     rows::begin(grows, 255, t);
-    let mut r = 0;
-    while r < o.h {
+    for r in 0..o.h {
         add_row(grows, t, s, w, h, y, o, words, heights, Bin(r as u16));
-        r += 1;
     }
 }

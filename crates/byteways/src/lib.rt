@@ -27,7 +27,12 @@ fn sweep_any(grows: bool, s: &[u8], t: &mut [u8], w: usize, h: usize, o: Outline
     if few::sweep(grows, &s[..], t, w, h, o, &words[..]) {
         return;
     }
-    bysource::sweep(grows, &s[..], t, w, h, o, &words[..]);
+    // a call for each way: a function with one call is taken into its caller, and its room with it
+    if grows {
+        bysource::sweep(true, &s[..], t, w, h, o, &words[..]);
+        return;
+    }
+    bysource::sweep(false, &s[..], t, w, h, o, &words[..]);
 }
 
 // The erosion, or the dilation, of the 8-bit picture in s by a flat element: a rectangle goes its own way.
@@ -43,7 +48,7 @@ pub fn sweep(grows: bool, s: &[u8], t: &mut [u8], w: usize, h: usize, o: Outline
     // a single cell is a copy
     if 2 < o.w + o.h {
         if boxes::is_box(&words[..], o) {
-            // a call for each way: a function with one call is taken into its caller, and its room with it
+            // a call for each way, as above
             if grows {
                 rectangle::bytes(true, &s[..], t, w, h, o);
                 return;

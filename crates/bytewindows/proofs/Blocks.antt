@@ -1,6 +1,6 @@
 -- A block of what stands at four places, and windows in place.
-use Prim.Native.Nat.{ℕ, ◌+◌, ◌-◌, ◌*◌, ◌≤◌, ◌<◌}
-use mathlib.Core.Path.{◌≡◌, refl, sym, ap, ap₂, ◌∙◌}
+use Prim.Native.Nat.{ℕ, ◌+◌, ◌*◌, ◌≤◌, ◌<◌}
+use mathlib.Core.Path.{◌≡◌, sym, ap, ap₂, ◌∙◌}
 use mathlib.Core.Bool.{Bool, false, cond}
 use mathlib.Core.List.{List}
 use native.Mathlib.Omega.{arith}
@@ -12,7 +12,7 @@ use Rattle.basics.proofs.Lists.{get_d_firsts, firsts_same}
 use Rattle.rows.specs.Steps.Fold.{join_by}
 use Rattle.blocks.specs.Steps.Block.{block_of}
 use Rattle.blocks.specs.Steps.Laid.{laid}
-use Rattle.blocks.proofs.Laid.{laid_next, laid_whole, length_laid}
+use Rattle.blocks.proofs.Laid.{laid_next, laid_whole}
 use Rattle.joins.specs.Steps.Joins.{joined_at}
 use Rattle.windows.specs.Steps.Widened.{widened_by}
 use Rattle.windows.proofs.InPlace.{Ahead}

@@ -2,7 +2,7 @@
 // and what stands at four places of it, laid over a row.
 #![tactic(auto)]
 
-ghost use Rattle.std.specs.Prelude.{◌≡◌, ◌+◌, ◌-◌, ◌*◌, ◌≤◌, length, get_or};
+ghost use Rattle.std.specs.Prelude.{◌≡◌, ◌+◌, ◌-◌, ◌*◌, ◌≤◌, length};
 ghost use Rattle.basics.specs.Lists.{firsts};
 ghost use Rattle.blocks.specs.Steps.Laid.{laid};
 ghost use Rattle.windows.specs.Steps.Widened.{widened_by};
@@ -26,12 +26,10 @@ fn widen(grows: bool, b: &mut [u8], k: usize, n: usize)
     requires { 64 * k + 3 * n ≤ length b.old }
     ensures { b.new ≡ widened_by (widen_at grows n) k b.old }
 {
-    let mut j = 0;
-    while j < k {
+    for j in 0..k {
         let i = 64 * j;
         let c = four(grows, b, i, i + n, i + 2 * n, i + 3 * n);
         blocks::put_block(b, i, c);
-        j += 1;
     }
 }
 
@@ -50,20 +48,6 @@ pub fn windows(grows: bool, b: &mut [u8], k: usize, m: usize)
     widen(grows, b, k, 4);
 }
 
-// The first bytes of a block, laid over t from the place `at` to its end.
-fn put_some(t: &mut [u8], at: usize, c: [u8; blocks::BLOCK])
-    requires { (at ≤ length t.old) × (length t.old ≤ at + 64) }
-    ensures { t.new
-        ≡ laid at (length t.old - at) (λ i. get_or c i 0) t.old }
-{
-    let n = t.len() - at;
-    let mut i = 0;
-    while i < n {
-        t[at + i] = c[i];
-        i += 1;
-    }
-}
-
 // The blocks of t that are whole: what stands at four places.
 fn lay_blocks(grows: bool, t: &mut [u8], k: usize, b: &[u8], p: usize, q: usize, r: usize, s: usize)
     requires { (64 * k ≤ length t.old) × Four p q r s (64 * k) (length b.now) }
@@ -71,12 +55,10 @@ fn lay_blocks(grows: bool, t: &mut [u8], k: usize, b: &[u8], p: usize, q: usize,
         ≡ laid 0 (64 * k) (λ i. joined_four grows b.now (p + i) (q + i) (r + i) (s + i))
         t.old }
 {
-    let mut j = 0;
-    while j < k {
+    for j in 0..k {
         let i = 64 * j;
         let c = four(grows, b, p + i, q + i, r + i, s + i);
         blocks::put_block(t, i, c);
-        j += 1;
     }
 }
 
@@ -92,7 +74,7 @@ pub fn lay(grows: bool, t: &mut [u8], b: &[u8], p: usize, q: usize, r: usize, s:
     let i = 64 * k;
     if i < t.len() {
         let c = four(grows, b, p + i, q + i, r + i, s + i);
-        put_some(t, i, c);
+        blocks::put_some(t, i, t.len() - i, c);
         return;
     }
 }

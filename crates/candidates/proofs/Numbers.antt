@@ -1,15 +1,12 @@
 -- The numbers of a candidate, as the code finds them.
 use Prim.Native.Nat.{ℕ, ◌+◌, ◌-◌, ◌*◌, ◌/◌, ◌%◌, ◌^◌, ◌≤◌, ◌<◌, min, max}
-use mathlib.Core.Path.{◌≡◌, refl, sym, ap, ap₂, ◌∙◌}
-use mathlib.Core.Bool.{Bool, true, false, cond}
-use mathlib.Core.List.{List, [], ◌∷◌}
+use mathlib.Core.Path.{◌≡◌, sym, ap, ap₂, ◌∙◌}
+use mathlib.Core.Bool.{true, false, cond}
 use native.Mathlib.Omega.{arith}
 use borrow.Author.Tests.{lt-ltb, le-ltb, le-leb, lt-leb, eq-eqb, ne_eqb}
 use lib.Bits.{bit_and}
-use lib.Dec.{leb, ltb, eqb}
 use lib.ListN.{get_or}
 use Rattle.hulls.specs.declared.Hull.{Hull}
-use Rattle.hulls.specs.declared.Side.{Side}
 use Rattle.candidates.specs.declared.Try.{Try}
 use Rattle.candidates.specs.Candidates.{try_no, part, needed, links_of, run_byte, heads, tails}
 use Rattle.candidates.specs.Candidates.{row_with, row_byte, link_byte}

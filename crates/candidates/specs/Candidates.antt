@@ -1,5 +1,5 @@
 -- The candidates of the search: chains of boxes with their corners cut.
-use Rattle.std.specs.Prelude.{ℕ, ◌+◌, ◌-◌, ◌*◌, ◌/◌, ◌%◌, ◌≤◌, min, max, Bool, true, false, cond, List}
+use Rattle.std.specs.Prelude.{ℕ, ◌+◌, ◌-◌, ◌*◌, ◌/◌, ◌%◌, ◌≤◌, min, max, true, false, cond, List}
 use Rattle.std.specs.Prelude.{[], ◌∷◌, leb, ltb, eqb, get_or}
 use Rattle.std.specs.Int.Bits.{bit_and}
 use Rattle.basics.specs.Lists.{firsts, joined}

@@ -41,9 +41,9 @@ pub fn try_no(t: usize) -> Try
             own: false,
         };
     }
-    let share = hulls::less(7, (t - 2) % 7);
+    let share = 7usize.saturating_sub((t - 2) % 7);
     Try {
-        side: hulls::less(7, (t - 2) / 7),
+        side: 7usize.saturating_sub((t - 2) / 7),
         origin: share,
         cut: share,
         own: false,
@@ -55,7 +55,7 @@ fn part(most: usize, x: usize, i: usize) -> usize
     requires { (most ≤ 7) × (i ≤ most_links) }
     ensures { (result ≡ part most x i) × (result ≤ 7) }
 {
-    basics::lesser(most, hulls::less(x, most * i))
+    most.min(x.saturating_sub(most * i))
 }
 
 // How many links of `most` each a side of n needs: five at the most.
@@ -88,7 +88,7 @@ pub fn links_of(hull: Hull, c: Try) -> usize
     }
     let across = hull.across;
     let down = hull.down;
-    needed(c.side, basics::greater(across.span, down.span))
+    needed(c.side, across.span.max(down.span))
 }
 
 // The bytes of each of its links.
@@ -97,7 +97,7 @@ pub fn length_of(hull: Hull, c: Try) -> usize
     ensures { (result ≡ length_of hull c) × (result ≤ 12) }
 {
     let down = hull.down;
-    4 + (basics::lesser(c.side, down.span) + 1)
+    4 + (c.side.min(down.span) + 1)
 }
 
 // The cells first to last of a row of a link.
@@ -132,14 +132,11 @@ fn row_byte(hull: Hull, c: Try, i: usize, r: usize) -> u8
     }
     let from = part(c.side, across.first, i);
     let to = part(c.side, across.last, i);
-    let ul = hulls::less(part(c.cut, hull.nw, i), r - upper);
-    let ll = hulls::less(part(c.cut, hull.sw, i), lower - r);
-    let ur = hulls::less(part(c.cut, hull.ne, i), r - upper);
-    let lr = hulls::less(part(c.cut, hull.se, i), lower - r);
-    run_byte(
-        from + basics::greater(ul, ll),
-        hulls::less(to, basics::greater(ur, lr)),
-    )
+    let ul = part(c.cut, hull.nw, i).saturating_sub(r - upper);
+    let ll = part(c.cut, hull.sw, i).saturating_sub(lower - r);
+    let ur = part(c.cut, hull.ne, i).saturating_sub(r - upper);
+    let lr = part(c.cut, hull.se, i).saturating_sub(lower - r);
+    run_byte(from + ul.max(ll), to.saturating_sub(ur.max(lr)))
 }
 
 // Byte j of link i.
@@ -150,10 +147,10 @@ fn link_byte(hull: Hull, c: Try, i: usize, j: usize) -> u8
     let across = hull.across;
     let down = hull.down;
     if j == 0 {
-        return (basics::lesser(c.side, across.span) + 1) as u8;
+        return (c.side.min(across.span) + 1) as u8;
     }
     if j == 1 {
-        return (basics::lesser(c.side, down.span) + 1) as u8;
+        return (c.side.min(down.span) + 1) as u8;
     }
     if j == 2 {
         return part(c.origin, across.origin, i) as u8;
@@ -173,10 +170,8 @@ fn put_link(t: &mut [u8], hull: Hull, c: Try, i: usize)
     requires { Few c × ((i ≤ most_links) × (length t.old ≤ 12)) }
     ensures { t.new ≡ firsts (link_byte hull c i) (length t.old) }
 {
-    let mut j = 0;
-    while j < t.len() {
+    for j in 0..t.len() {
         t[j] = link_byte(hull, c, i, j);
-        j += 1;
     }
 }
 
@@ -186,11 +181,9 @@ pub fn put_links(t: &mut [u8], hull: Hull, c: Try, k: usize, m: usize)
     ensures { t.new
         ≡ joined (λ i. firsts (link_byte hull c i) m) k ++ drop (k * m) t.old }
 {
-    let mut i = 0;
-    while i < k {
+    for i in 0..k {
         let at = i * m;
         let end = at + m;
         put_link(&mut t[at..end], hull, c, i);
-        i += 1;
     }
 }

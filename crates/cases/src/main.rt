@@ -28,20 +28,9 @@ fn copied(
     source: &[u8],
     target: &mut [u8],
 ) -> Answer {
-    let a = judge::refusal(
-        Padding::Free,
-        depth,
-        w,
-        h,
-        source,
-        Answer::Done,
-        0,
-        target.len(),
-    );
-    if answer::is_done(a) {
-        copies::copy_picture(depth, face, source, target, w, h);
-    }
-    a
+    judge::refusal(Padding::Free, depth, w, h, source, Ok(()), 0, target.len())?;
+    copies::copy_picture(depth, face, source, target, w, h);
+    Ok(())
 }
 
 // Those that are lent a scratch buffer.
@@ -137,7 +126,10 @@ fn given(
 }
 
 // A label, or a job and the buffers that it lends.
-fn job(rt: &impl Print, letter: u8, line: &[u8]) -> io::Result<()> {
+fn job(rt: &impl Print, line: &[u8]) -> io::Result<()> {
+    let Some(&letter) = line.first() else {
+        return Ok(());
+    };
     if letter == b'#' {
         return show::text(rt, line);
     }
@@ -157,11 +149,8 @@ fn job(rt: &impl Print, letter: u8, line: &[u8]) -> io::Result<()> {
 }
 
 fn each_line(rt: &impl Print, input: &[u8]) -> io::Result<()> {
-    let mut at = 0;
-    while at < input.len() {
-        let end = numbers::line_end(input, at);
-        job(rt, input[at], &input[at..end])?;
-        at = end;
+    for line in input.split_inclusive(|b| *b == b'\n') {
+        job(rt, line)?;
     }
     Ok(())
 }

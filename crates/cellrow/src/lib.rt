@@ -15,10 +15,7 @@ use picture::Ping;
 fn past(a: usize, b: usize, n: usize) -> usize
     ensures { result ≡ min (a - b) n }
 {
-    if a <= b {
-        return 0;
-    }
-    if n < a - b { n } else { a - b }
+    a.saturating_sub(b).min(n)
 }
 
 // One of two numbers: dilation takes an offset the other way round.
@@ -86,11 +83,9 @@ pub fn fold_row(
         ≡ folded_row grows (weigh_by grows) (λ c. columns_of heights.now (at + c))
         t.old (columns_of s.now) w (cell_on word) wide origin.0 }
 {
-    let mut c = 0;
-    while c < wide {
+    for c in 0..wide {
         let column = Ping(c as u16);
         let g = height_at(heights, at, column);
         fold_cell(grows, t, s, w, word, column, origin, g);
-        c += 1;
     }
 }

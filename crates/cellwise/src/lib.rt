@@ -64,10 +64,8 @@ fn pick(into: &mut [u32], at: &[u32], w: usize, back: usize, x: usize) -> usize
     ensures { Picked w back x at.now (length at.now) result into.new }
 {
     let mut n = 0;
-    let mut j = 0;
-    while j < at.len() {
+    for j in 0..at.len() {
         n = keep(into, n, w, back, x, wide(at[j]));
-        j += 1;
     }
     n
 }
@@ -136,10 +134,8 @@ fn columns(
     requires across { Across grows s.now w h o words.now from t.old }
     ensures { Across grows s.now w h o words.now to t.new }
 {
-    let mut x = from;
-    while x < to {
+    for x in from..to {
         column(grows, s, t, w, h, o, words, at, x);
-        x += 1;
     }
 }
 
@@ -188,13 +184,11 @@ fn fill_rows(
     requires down { Down grows s.now w h o words.now first last from t.old }
     ensures { Down grows s.now w h o words.now first last to t.new }
 {
-    let mut y = from;
-    while y < to {
+    for y in from..to {
         let a = y * w;
         let z = a + w;
         let none = &s[..0];
         byterow::make_row(grows, &mut t[a..z], s, w, h, Bin(y as u16), o, words, none);
-        y += 1;
     }
 }
 

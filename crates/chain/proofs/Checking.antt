@@ -1,5 +1,5 @@
 -- The check of bytes, by what is met first; and that the links that are read are the links of the definition.
-use Prim.Native.Nat.{ℕ, zero, suc, ◌+◌, ◌-◌, ◌≤◌, ◌<◌}
+use Prim.Native.Nat.{ℕ, zero, suc, ◌+◌, ◌≤◌, ◌<◌}
 use mathlib.Core.Path.{◌≡◌, refl, sym, ap, ap₂, ◌∙◌, subst}
 use mathlib.Core.Bool.{Bool, true, false, not, false≢true}
 use mathlib.Core.List.{List, [], ◌∷◌, map}
@@ -10,14 +10,17 @@ use borrow.Author.Tests.{leb-true}
 use lib.Dec.{leb, ltb, lit≤}
 use lib.ListN.{length, get_or, take}
 use lib.Seq.{get_or-drop}
+use Rattle.std.specs.Prelude.{Result, Err}
 use Rattle.basics.proofs.Lists.{get_d_firsts}
 use Rattle.basics.proofs.Tests.{both}
 use Rattle.answer.specs.declared.Told.{Told}
-use Rattle.answer.specs.declared.Answer.TheVariants.{Chain}
-use Rattle.answer.specs.Answer.{told, plain, is_done}
+use Rattle.answer.specs.declared.Refusal.{Refusal}
+use Rattle.answer.specs.declared.Refusal.TheVariants.{Chain}
+use Rattle.answer.specs.Answer.{told, told_refusal, plain, is_done}
 use Rattle.answer.specs.Refuse.{Test, refuse, FirstHolds, here, later}
 use Rattle.answer.proofs.Order.{Numbered}
 use Rattle.answer.proofs.Lent.{all_done}
+use Rattle.answer.proofs.Variants.{err_undone}
 use Rattle.element.specs.declared.Element.{Element}
 use Rattle.element.specs.Descriptor.{most_cells, wide_of, high_of, well_made, shape_in, cell_at}
 use Rattle.element.specs.Descriptor.{descriptor_length}
@@ -30,11 +33,10 @@ use Rattle.morphology.specs.Check.{check_of}
 use Rattle.morphology.proofs.Trim.{trim, trim_same, check_trim}
 use Rattle.reach.specs.declared.Link.{Link}
 use Rattle.reach.specs.Steps.Links.{first_rows, link_by, link_of, link_shape, shapes_of}
-use Rattle.chain.specs.declared.Links.{Links}
 use Rattle.chain.specs.Reading.{first_of, rest_of, counted, small}
 use Rattle.chain.specs.Reading.{link_tests, chain_tests, check_tests, links_in}
 use Rattle.chain.specs.Steps.Records.{held_in}
-use Rattle.chain.proofs.Reading.{none_after, some_after, zero_none, Promised}
+use Rattle.chain.proofs.Reading.{none_after, some_after, Promised}
 
 -- ---- the links' refusals
 
@@ -194,8 +196,8 @@ module _ (element chain : List ℕ) (k : ℕ) (after : Told) where
     unfolding check_tests
     opened = ap (λ b. refuse ((not b, 4) ∷ chain_tests k chain) after) (sym made)
 
-    pub check_miscounted : counted k ≡ false → told Chain ≡ refuse (check_tests element k chain) after
-    unfolding chain_tests told
+    pub check_miscounted : counted k ≡ false → told_refusal Chain ≡ refuse (check_tests element k chain) after
+    unfolding chain_tests told_refusal
     check_miscounted e = ap (λ b. refuse ((not b, 6) ∷ link_tests k chain) after) (sym e) ∙ opened
 
     module _ (right : counted k ≡ true) where
@@ -203,40 +205,34 @@ module _ (element chain : List ℕ) (k : ℕ) (after : Told) where
       unfolding chain_tests
       links_opened = ap (λ b. refuse ((not b, 6) ∷ link_tests k chain) after) (sym right) ∙ opened
 
-      module _ (ls : Links) (so : Promised chain k ls) where
-        pub check_refused : is_done (told ls.answer) ≡ false
-            → told ls.answer ≡ refuse (check_tests element k chain) after
-        check_refused e =
-            so.answered
-            ∙ some_after (link_tests k chain)
-            (λ z. false≢true (sym e ∙ ap is_done (so.answered ∙ z) ∙ all_done)) after
-            ∙ links_opened
+      pub check_refused : (r : Result (List Link) Refusal) (x : Refusal) → Promised chain k r → r ≡ Err x
+          → told r ≡ refuse (check_tests element k chain) after
+      check_refused r x so e =
+          so.answered
+          ∙ some_after (link_tests k chain)
+          (λ z. false≢true (sym (err_undone r x e) ∙ ap is_done (so.answered ∙ z) ∙ all_done)) after
+          ∙ links_opened
 
-        module _ (e : is_done (told ls.answer) ≡ true) where
-          passed : refuse (link_tests k chain) (plain 0) ≡ plain 0
-          passed = zero_none (link_tests k chain) (numbered k chain) (ap is_done (sym so.answered) ∙ e)
+      module _ (passed : refuse (link_tests k chain) (plain 0) ≡ plain 0) where
+        nothing_refused : refuse (check_tests element k chain) (plain 0) ≡ plain 0
+        unfolding check_tests chain_tests
+        nothing_refused =
+            ap₂ (λ b c. refuse ((not b, 4) ∷ (not c, 6) ∷ link_tests k chain) (plain 0)) made right ∙ passed
 
-          pub links_are : take k ls.all ≡ held_in k chain
-          links_are = so.links (ap is_done passed ∙ all_done)
+        pub check_passed : after ≡ refuse (check_tests element k chain) after
+        check_passed = sym (none_after (link_tests k chain) (numbered k chain) passed after) ∙ links_opened
 
-          nothing_refused : refuse (check_tests element k chain) (plain 0) ≡ plain 0
-          unfolding check_tests chain_tests
-          nothing_refused =
-              ap₂ (λ b c. refuse ((not b, 4) ∷ (not c, 6) ∷ link_tests k chain) (plain 0)) made right ∙ passed
-
-          pub check_passed : after ≡ refuse (check_tests element k chain) after
-          check_passed = sym (none_after (link_tests k chain) (numbered k chain) passed after) ∙ links_opened
-
+        module _ (all : List Link) (links_are : take k all ≡ held_in k chain) where
           module _ (whole : Element) (is : whole ≡ element_of element) where
-            pub chained : Chained (shape_of whole) (shapes_of (take k ls.all))
+            pub chained : Chained (shape_of whole) (shapes_of (take k all))
             chained =
-                subst (λ (w : Element). Chained (shape_of w) (shapes_of (take k ls.all))) (sym is)
+                subst (λ (w : Element). Chained (shape_of w) (shapes_of (take k all))) (sym is)
                 (subst (λ (es : List Link). Chained (shape_of (element_of element)) (shapes_of es))
                 (sym links_are)
                 (records_chained element chain k (well_chained element chain k nothing_refused)))
 
             pub same_check : Bytes element → Bytes chain
-                → check_of (shape_of whole) (shapes_of (take k ls.all))
+                → check_of (shape_of whole) (shapes_of (take k all))
                 ≡ check_of (shape_in element) (links_in k chain)
             same_check be bc =
                 ap₂ (λ (w : Element) (es : List Link). check_of (shape_of w) (shapes_of es)) is links_are

@@ -8,26 +8,27 @@ use native.Mathlib.Omega.{arith}
 use native.Mathlib.Nat.{sub-zero, add-sub_cancel_left}
 use native.Mathlib.Numerals.{add-one}
 use borrow.Author.Tests.{le-ltb, lt-ltb, eqb-true}
-use lib.Dec.{ltb, eqb, lit≤}
+use lib.Dec.{ltb}
 use lib.ListN.{length, take, drop, set, length-drop, length-set}
 use lib.Seq.{drop-drop, take-suc-set}
+use Rattle.std.specs.Prelude.{Result, Ok, Err, IfOk, cond}
+use Rattle.std.proofs.lemmas.Result.{IfOk-at_ok}
 use Rattle.basics.proofs.Lists.{tail_is}
 use Rattle.answer.specs.declared.Told.{Told}
-use Rattle.answer.specs.declared.Answer.{Answer}
-use Rattle.answer.specs.declared.Answer.TheVariants.{Done, Shape, Chain}
-use Rattle.answer.specs.Answer.{told, plain, is_done}
+use Rattle.answer.specs.declared.Refusal.{Refusal}
+use Rattle.answer.specs.declared.Refusal.TheVariants.{Shape, Chain}
+use Rattle.answer.specs.Answer.{told, told_refusal, plain, is_done}
 use Rattle.answer.specs.Refuse.{Test, refuse}
 use Rattle.answer.proofs.Order.{Numbered, number_of}
-use Rattle.answer.proofs.Lent.{not_done, all_done}
+use Rattle.answer.proofs.Variants.{err_undone, ok_done}
 use Rattle.element.specs.declared.Element.{Element}
 use Rattle.element.specs.Descriptor.{wide_of, high_of, well_made, descriptor_length}
 use Rattle.element.specs.Record.{element_of}
 use Rattle.reach.specs.declared.Link.{Link}
 use Rattle.reach.specs.Steps.Links.{link_of}
 use Rattle.morphology.specs.Chain.{most_links}
-use Rattle.chain.specs.declared.Links.{Links}
 use Rattle.chain.specs.Reading.{first_of, rest_of, small, link_tests}
-use Rattle.chain.specs.Steps.Records.{LinkAs, held_in, ReadAs}
+use Rattle.chain.specs.Steps.Records.{link_read, held_in, ReadAs}
 
 -- ---- refusals
 
@@ -55,33 +56,38 @@ zero_none ((false, m) ∷ ts) some e = zero_none ts some.1 e
 
 -- one descriptor, by what is met first
 module _ (d : List ℕ) where
-  pub one_unmade : well_made d ≡ false → (l : Link) → LinkAs d (told Shape) l
-  unfolding told
-  one_unmade e l =
-      record {
-        answered = ap (λ b. refuse ((not b, 4) ∷ (not (small (wide_of d) (high_of d)), 6) ∷ []) (plain 0))
-            (sym e);
-        held = λ z. absurd (false≢true (sym (not_done 4 (omega arith)) ∙ z));
-      }
+  pub one_unmade : well_made d ≡ false → Err Shape ≡ link_read d
+  unfolding link_read
+  one_unmade e = simp e
 
-  module _ (made : well_made d ≡ true) (s : Bool) (es : small (wide_of d) (high_of d) ≡ s) where
-    two : refuse ((not true, 4) ∷ (not s, 6) ∷ []) (plain 0)
-        ≡ refuse ((not (well_made d), 4) ∷ (not (small (wide_of d) (high_of d)), 6) ∷ []) (plain 0)
-    two = ap₂ (λ x y. refuse ((not x, 4) ∷ (not y, 6) ∷ []) (plain 0)) (sym made) (sym es)
-
-  pub one_wide : well_made d ≡ true → small (wide_of d) (high_of d) ≡ false → (l : Link) → LinkAs d
-      (told Chain) l
-  unfolding told
-  one_wide made e l =
-      record {
-        answered = two made false e;
-        held = λ z. absurd (false≢true (sym (not_done 6 (omega arith)) ∙ z));
-      }
+  pub one_wide : well_made d ≡ true → small (wide_of d) (high_of d) ≡ false → Err Chain ≡ link_read d
+  unfolding link_read
+  one_wide e s = simp (e, s)
 
   pub one_held : well_made d ≡ true → small (wide_of d) (high_of d) ≡ true → (l : Link)
-      → l ≡ link_of (element_of d) → LinkAs d (told Done) l
-  unfolding told
-  one_held made e l q = record { answered = two made true e; held = λ z. q }
+      → l ≡ link_of (element_of d) → Ok l ≡ link_read d
+  unfolding link_read
+  one_held e s l q = simp (e, s, q)
+
+-- and from what was read of it: a refusal is the first of its tests that holds, and a link has passed both
+module _ (x : Link) (b s : Bool) where
+  abbrev read : Result Link Refusal
+  read = cond b (cond s (Ok x) (Err Chain)) (Err Shape)
+
+read_refused : (x : Link) (b s : Bool) (r : Refusal) → read x b s ≡ Err r → (ts : List Test)
+    → told_refusal r ≡ refuse ((not b, 4) ∷ (not s, 6) ∷ ts) (plain 0)
+unfolding told told_refusal
+read_refused x true true r e ts =
+    absurd (false≢true (sym (err_undone _ r e) ∙ ok_done (read x true true) x refl))
+read_refused x true false r e ts = sym (ap (λ (l : Result Link Refusal). told l) e)
+read_refused x false s r e ts = sym (ap (λ (l : Result Link Refusal). told l) e)
+
+read_taken : (x : Link) (b s : Bool) (l : Link) → read x b s ≡ Ok l → (b ≡ true) × ((s ≡ true) × (l ≡ x))
+read_taken x true true l e = (refl, (refl, IfOk-at_ok (λ (y : Link). y ≡ x) e refl))
+read_taken x true false l e =
+    absurd (false≢true (sym (err_undone (read x true false) Chain refl) ∙ ok_done _ l e))
+read_taken x false s l e =
+    absurd (false≢true (sym (err_undone (read x false s) Shape refl) ∙ ok_done _ l e))
 
 -- its size, from the element that was read
 pub size_of : (d : List ℕ) (e : Element) → e ≡ element_of d → (s : Bool)
@@ -126,16 +132,27 @@ onward_start d k all l =
       links = ap (λ n. held_in n d) (sub-zero k);
     }
 
--- a refusal promises no links
-pub refused_as : (t : Told) (k : ℕ) (d : List ℕ) (ls : Links) → told ls.answer ≡ t
-    → is_done (told ls.answer) ≡ false
-    → ReadAs t k d ls
-refused_as t k d ls e q =
-    record { answered = e; links = λ z. absurd (false≢true (sym q ∙ ap is_done e ∙ z)) }
-
 -- what a chain's reading promises
-abbrev pub Promised : List ℕ → ℕ → Links → Type 0
+abbrev pub Promised : List ℕ → ℕ → Result (List Link) Refusal → Type 0
 Promised d k r = ReadAs (refuse (link_tests k d) (plain 0)) k d r
+
+-- a refusal promises no links
+pub refused_as : (d : List ℕ) (k : ℕ) (r : Result (List Link) Refusal) (x : Refusal) → r ≡ Err x
+    → told r ≡ refuse (link_tests k d) (plain 0) → Promised d k r
+refused_as d k r x q e =
+    record {
+      answered = e;
+      links = subst (λ (r : Result (List Link) Refusal). IfOk r (λ all. take k all ≡ held_in k d)) (sym q) tt;
+    }
+
+-- where it is done nothing of it is refused, and its links are those of the chain
+pub read_passed : (d : List ℕ) (k : ℕ) (r : Result (List Link) Refusal) (all : List Link) → r ≡ Ok all
+    → Promised d k r → (refuse (link_tests k d) (plain 0) ≡ plain 0) × (take k all ≡ held_in k d)
+unfolding told
+read_passed d k r all e p = (
+  sym p.answered ∙ ap (λ (r : Result (List Link) Refusal). told r) e,
+  IfOk-at_ok (λ (all : List Link). take k all ≡ held_in k d) e p.links,
+)
 
 module _ (d : List ℕ) (k : ℕ) (all : List Link) (i at : ℕ) (o : Onward d k all i at) where
   module _ (more : i < k) (n : ℕ) (en : n ≡ descriptor_length (take (length d - at) (drop at d))) where
@@ -161,55 +178,43 @@ module _ (d : List ℕ) (k : ℕ) (all : List Link) (i at : ℕ) (o : Onward d k
         (sym eb) (sym es)
         ∙ ap (λ m. refuse (link_tests m (drop at d)) (plain 0)) left ∙ o.refusal
 
-    module _ (answer : Told) (link : Link)
-        (so : LinkAs (take (at + n - at) (drop at d)) answer link) where
-      one : LinkAs (first_of (drop at d)) answer link
-      one = subst (λ l. LinkAs l answer link) (first_is d at n o.inside en) so
+    -- what is read here
+    here_read : (was : Result Link Refusal) → was ≡ link_read (take (at + n - at) (drop at d))
+        → was ≡ link_read (first_of (drop at d))
+    here_read was e = e ∙ ap link_read (first_is d at n o.inside en)
 
-      abbrev own : List Test
-      own =
-          (not (well_made (first_of (drop at d))), 4)
-          ∷ (not (small (wide_of (first_of (drop at d))) (high_of (first_of (drop at d)))), 6) ∷ []
+    -- what follows a link that is refused is not asked
+    pub link_refused : (was : Result Link Refusal) → was ≡ link_read (take (at + n - at) (drop at d))
+        → (r : Refusal) → was ≡ Err r → told was ≡ refuse (link_tests k d) (plain 0)
+    unfolding told link_read
+    link_refused was e r q =
+        ap (λ (a : Result Link Refusal). told a) q
+        ∙ read_refused _ _ _ r (sym (here_read was e) ∙ q) (link_tests (k - suc i) (rest_of (drop at d)))
+        ∙ one_link _ _ refl refl
 
-      some : Numbered own
-      some = (lit≤ tt, (lit≤ tt, tt))
-
-      -- what follows a link that is refused is not asked
-      module _ (e : is_done answer ≡ false) (a : Answer) (ea : told a ≡ answer) where
-        pub link_refused : Promised d k (record { answer = a; all = all })
-        link_refused =
-            refused_as _ k d _
-            (ea ∙ one.answered
-            ∙ some_after own (λ z. false≢true (sym e ∙ ap is_done (one.answered ∙ z) ∙ all_done)) _
-            ∙ one_link _ _ refl refl) (ap is_done ea ∙ e)
-
-      -- one that is taken
-      module _ (e : is_done answer ≡ true) where
-        passes : refuse own (plain 0) ≡ plain 0
-        passes = zero_none own some (ap is_done (sym one.answered) ∙ e)
-
-        pub link_taken : k ≤ most_links → Onward d k (set all i link) (i + 1) (at + n)
-        unfolding held_in
-        link_taken few =
-            record {
-              inside = end_in_lem;
-              long = length-set all i link ∙ o.long;
-              refusal =
-                  ap₂ (λ m l. refuse (link_tests m l) (plain 0)) (sym same) rest_here
-                  ∙ sym (none_after own some passes
-                  (refuse (link_tests (k - suc i) (rest_of (drop at d))) (plain 0)))
-                  ∙ one_link _ _ refl refl;
-              links =
-                  ap₂ (λ a b. a ++ b) (ap (λ m. take m (set all i link)) (add-one i)
-                  ∙ take-suc-set all i link (in_array o.long))
-                  (ap₂ (λ m l. held_in m l) (sym same) rest_here)
-                  ∙ append_assoc (take i all) (link ∷ []) (held_in (k - suc i) (rest_of (drop at d)))
-                  ∙ ap (λ e. take i all ++ (e ∷ held_in (k - suc i) (rest_of (drop at d)))) (one.held e)
-                  ∙ ap (λ m. take i all ++ held_in m (drop at d)) left ∙ o.links;
-            }
-          where
-            in_array : length all ≡ most_links → i < length all
-            in_array l = omega arith
+    -- one that is taken
+    pub link_taken : (was : Result Link Refusal) → was ≡ link_read (take (at + n - at) (drop at d))
+        → (link : Link) → was ≡ Ok link → k ≤ most_links → Onward d k (set all i link) (i + 1) (at + n)
+    unfolding held_in link_read
+    link_taken was e link q few =
+        let t = read_taken _ _ _ link (sym (here_read was e) ∙ q) in
+        record {
+          inside = end_in_lem;
+          long = length-set all i link ∙ o.long;
+          refusal =
+              ap₂ (λ m l. refuse (link_tests m l) (plain 0)) (sym same) rest_here
+              ∙ one_link true true t.0 t.1.0;
+          links =
+              ap₂ (λ a b. a ++ b) (ap (λ m. take m (set all i link)) (add-one i)
+              ∙ take-suc-set all i link (in_array o.long))
+              (ap₂ (λ m l. held_in m l) (sym same) rest_here)
+              ∙ append_assoc (take i all) (link ∷ []) (held_in (k - suc i) (rest_of (drop at d)))
+              ∙ ap (λ e. take i all ++ (e ∷ held_in (k - suc i) (rest_of (drop at d)))) t.1.1
+              ∙ ap (λ m. take i all ++ held_in m (drop at d)) left ∙ o.links;
+        }
+      where
+        in_array : length all ≡ most_links → i < length all
+        in_array l = omega arith
 
   -- after the last link
   module _ (last : k ≡ i) where
@@ -223,18 +228,18 @@ module _ (d : List ℕ) (k : ℕ) (all : List Link) (i at : ℕ) (o : Onward d k
         ap (λ x. refuse ((x, 4) ∷ []) (plain 0)) (sym e)
         ∙ ap (λ m. refuse (link_tests m (drop at d)) (plain 0)) none ∙ o.refusal
 
-    pub bytes_follow : at < length d → Promised d k (record { answer = Shape; all = all })
-    unfolding told
+    pub bytes_follow : at < length d → Promised d k (Err Shape)
+    unfolding told told_refusal
     bytes_follow l =
-        refused_as _ k d _ (over true (lt-ltb 0 (length (drop at d)) (omega (arith, length-drop at d))))
-        (not_done 4 (omega arith))
+        refused_as d k _ Shape refl
+        (over true (lt-ltb 0 (length (drop at d)) (omega (arith, length-drop at d))))
 
-    pub links_read : length d ≤ at → Promised d k (record { answer = Done; all = all })
+    pub links_read : length d ≤ at → Promised d k (Ok all)
     unfolding told held_in
     links_read l =
         record {
           answered = over false (le-ltb 0 (length (drop at d)) (omega (arith, length-drop at d)));
           links =
-              λ z. ap (λ m. take m all) last ∙ sym (append-nil (take i all))
+              ap (λ m. take m all) last ∙ sym (append-nil (take i all))
               ∙ ap (λ m. take i all ++ held_in m (drop at d)) none ∙ o.links;
         }

@@ -1,14 +1,17 @@
 -- A run's answer: what is known where it is done, and the buffers by it.
 use Prim.Native.Nat.{ℕ, min}
 use mathlib.Core.Path.{◌≡◌, refl, sym, ap, ap₂, ◌∙◌}
-use mathlib.Core.Bool.{Bool, true}
+use mathlib.Core.Bool.{Bool, true, false≢true}
 use mathlib.Core.List.{List}
 use native.Mathlib.Omega.{arith}
 use borrow.Author.Tests.{not-false}
 use lib.ListN.{length, take}
 use Rattle.basics.specs.Bytes.{Bytes}
-use Rattle.answer.specs.declared.Answer.{Answer}
-use Rattle.answer.specs.Answer.{told, plain, is_done}
+use Rattle.std.specs.Prelude.{Result, Ok, Err}
+use Rattle.std.specs.Result.{is_ok}
+use Rattle.answer.proofs.Variants.{refused_undone}
+use Rattle.answer.specs.declared.Refusal.{Refusal}
+use Rattle.answer.specs.Answer.{Answer, told, plain, is_done}
 use Rattle.answer.specs.Refuse.{refuse}
 use Rattle.answer.specs.Lent.{if_done, unless_refused}
 use Rattle.answer.proofs.Order.{NoneOf, passed_all, none_refuses}
@@ -18,7 +21,8 @@ use Rattle.picture.specs.Bytes.{Picture}
 use Rattle.judge.specs.declared.Padding.TheVariants.{Free}
 use Rattle.judge.specs.Tests.{picture_tests, room_tests, Admitted}
 use Rattle.judge.proofs.Admitted.{admitted, holds}
-use Rattle.chain.specs.declared.Links.{Links}
+use Rattle.reach.specs.declared.Link.{Link}
+use Rattle.chain.proofs.Reading.{read_passed}
 use Rattle.chain.specs.Reading.{link_tests, chain_tests, check_tests, counted, checked}
 use Rattle.chain.specs.Steps.Records.{held_in, ReadAs}
 use Rattle.chain.proofs.Checking.{check_numbered, few_links}
@@ -89,32 +93,44 @@ module _ (depth : Depth) (grows : Bool) (w h : ℕ)
 
 -- the links that were read of a chain, of which none is refused
 module _ (depth : Depth) (grows : Bool) (w h : ℕ) (source : List ℕ) (links : ℕ) (chain first second : List ℕ)
-    (read : Links) (ask : Linked depth w h (length source) links chain (length first) (length second))
-    (er : ReadAs (refuse (link_tests links chain) (plain 0)) links chain read) (bytes : Bytes chain) where
-  links_are : take links read.all ≡ held_in links chain
-  links_are = er.links (ap is_done ask.made ∙ all_done)
+    (r : Result (List Link) Refusal)
+    (ask : Linked depth w h (length source) links chain (length first) (length second))
+    (er : ReadAs (refuse (link_tests links chain) (plain 0)) links chain r) (bytes : Bytes chain) where
+  pub is_read : is_ok r ≡ true
+  unfolding told
+  is_read = by r er
+    where
+      by : (r : Result (List Link) Refusal) → ReadAs (refuse (link_tests links chain) (plain 0)) links chain r
+          → is_ok r ≡ true
+      by (Ok all) e = refl
+      by (Err x) e =
+          absurd (false≢true (sym (refused_undone x) ∙ ap is_done (e.answered ∙ ask.made) ∙ all_done))
 
-  pub going : Going depth w h (length source) read.all links (length first) (length second)
-  going =
-      record {
-        few = ask.few;
-        fitting = fitting_here depth w h source chain read.all links bytes ask.made links_are;
-        source_holds = ask.source_holds;
-        first_holds = ask.first_holds;
-        second_holds = ask.second_holds;
-      }
+  module _ (all : List Link) (is : r ≡ Ok all) where
+    links_are : take links all ≡ held_in links chain
+    links_are = (read_passed _ _ r all is er).1
 
-  -- the buffers that the loop has left
-  pub first_left : (u : List ℕ)
-      → u ≡ first_after depth w h (made_by grows depth w h source read.all) links first
-      → u ≡ first_after depth w h (results_by grows depth w h source chain) links first
-  first_left u e =
-      e ∙ first_alike depth w h _ _ links first
-      (made_alike depth w h source chain read.all links bytes ask.made links_are grows)
+    pub going : Going depth w h (length source) all links (length first) (length second)
+    going =
+        record {
+          few = ask.few;
+          fitting = fitting_here depth w h source chain all links bytes ask.made links_are;
+          source_holds = ask.source_holds;
+          first_holds = ask.first_holds;
+          second_holds = ask.second_holds;
+        }
 
-  pub second_left : (u : List ℕ)
-      → u ≡ second_after depth w h (made_by grows depth w h source read.all) links second
-      → u ≡ second_after depth w h (results_by grows depth w h source chain) links second
-  second_left u e =
-      e ∙ second_alike depth w h _ _ links second
-      (made_alike depth w h source chain read.all links bytes ask.made links_are grows)
+    -- the buffers that the loop has left
+    pub first_left : (u : List ℕ)
+        → u ≡ first_after depth w h (made_by grows depth w h source all) links first
+        → u ≡ first_after depth w h (results_by grows depth w h source chain) links first
+    first_left u e =
+        e ∙ first_alike depth w h _ _ links first
+        (made_alike depth w h source chain all links bytes ask.made links_are grows)
+
+    pub second_left : (u : List ℕ)
+        → u ≡ second_after depth w h (made_by grows depth w h source all) links second
+        → u ≡ second_after depth w h (results_by grows depth w h source chain) links second
+    second_left u e =
+        e ∙ second_alike depth w h _ _ links second
+        (made_alike depth w h source chain all links bytes ask.made links_are grows)

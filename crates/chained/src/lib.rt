@@ -70,11 +70,9 @@ fn each_link(
         ≡ second_after depth w h (made_by grows depth w h source.now all)
         links second.old }
 {
-    let mut i = 0;
-    while i < links {
+    for i in 0..links {
         let e = all[i];
         link(depth, grows, w, h, i, source, e, first, second);
-        i += 1;
     }
 }
 
@@ -102,8 +100,7 @@ fn run_links(
         (results_by grows depth w h source.now chain.now) links
         second.old }
 {
-    let read = chain::read_links(chain, links);
-    let all = read.all;
+    let all = chain::read_links(chain, links).unwrap();
     each_link(depth, grows, w, h, source, all, links, first, second);
 }
 
@@ -134,18 +131,15 @@ fn run(
         second.old) }
 {
     let check = chain::check_chain(element, links, chain);
-    let room = basics::lesser(first.len(), second.len());
-    let no = judge::refusal(Padding::Free, depth, w, h, source, check, 0, room);
-    if answer::is_done(no) {
-        // a call for each way: a function with one call is taken into its caller, and its links with it
-        if grows {
-            run_links(depth, true, w, h, source, links, chain, first, second);
-            return no;
-        }
-        run_links(depth, false, w, h, source, links, chain, first, second);
-        return no;
+    let room = first.len().min(second.len());
+    judge::refusal(Padding::Free, depth, w, h, source, check, 0, room)?;
+    // a call for each way: a function with one call is taken into its caller, and its links with it
+    if grows {
+        run_links(depth, true, w, h, source, links, chain, first, second);
+        return Ok(());
     }
-    no
+    run_links(depth, false, w, h, source, links, chain, first, second);
+    Ok(())
 }
 
 // Erosion of the w x h picture in the source by each link of a chain in order,

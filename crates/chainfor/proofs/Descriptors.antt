@@ -1,42 +1,23 @@
--- What the reader of one descriptor answers: it is done exactly where the descriptor is well made.
-use Prim.Native.Nat.{ℕ}
-use mathlib.Core.Path.{◌≡◌, refl, sym, ap, ◌∙◌}
-use mathlib.Core.Bool.{Bool, true, false, not, cond, false≢true}
-use mathlib.Core.List.{List, [], ◌∷◌}
-use lib.Dec.{eqb}
-use Rattle.answer.specs.declared.Told.{Told}
-use Rattle.answer.specs.Answer.{told, plain}
-use Rattle.answer.specs.Refuse.{refuse}
-use Rattle.element.specs.declared.Read.{Read}
-use Rattle.element.specs.Descriptor.{well_made}
-use Rattle.element.specs.Record.{element_of, nothing}
+-- What the reader of one descriptor gives: an element exactly where the descriptor is well made.
+use mathlib.Core.Path.{◌≡◌, refl, sym, ◌∙◌}
+use mathlib.Core.Bool.{Bool, true, false, cond, false≢true}
+use Rattle.std.specs.Prelude.{Result, Ok, Err}
+use Rattle.std.proofs.lemmas.Result.{IfOk-at_ok, IfErr-at_err}
+use Rattle.answer.specs.declared.Refusal.{Refusal}
+use Rattle.answer.specs.declared.Refusal.TheVariants.{Shape}
+use Rattle.answer.proofs.Variants.{err_undone, ok_done}
+use Rattle.element.specs.declared.Element.{Element}
 
--- what a reader of one descriptor answers
-abbrev pub ReadOf : List ℕ → Read → Type 0
-ReadOf d r =
-    (told r.answer ≡ refuse ((not (well_made d), 4) ∷ []) (plain 0))
-    × (r.element ≡ cond (well_made d) (element_of d) nothing)
+abbrev read : Bool → Element → Result Element Refusal
+read made x = cond made (Ok x) (Err Shape)
 
--- it is done exactly where the descriptor is well made
-module _ (d : List ℕ) (r : Read) (so : ReadOf d r) where
-  pub read_made : eqb (told r.answer).number 0 ≡ true → well_made d ≡ true
-  unfolding plain
-  read_made e = by (well_made d) so.0
-    where
-      by : (b : Bool) → told r.answer ≡ refuse ((not b, 4) ∷ []) (plain 0) → b ≡ true
-      by true t = refl
-      by false t = absurd (false≢true (sym (ap (λ (t : Told). eqb t.number 0) t) ∙ e))
+pub read_made : (made : Bool) (x e : Element) → read made x ≡ Ok e → (made ≡ true) × (e ≡ x)
+read_made true x e q = (refl, IfOk-at_ok (λ (y : Element). y ≡ x) q refl)
+read_made false x e q =
+    absurd (false≢true (sym (err_undone (read false x) Shape refl) ∙ ok_done (read false x) e q))
 
-  pub read_unmade : eqb (told r.answer).number 0 ≡ false → well_made d ≡ false
-  unfolding plain
-  read_unmade e = by (well_made d) so.0
-    where
-      by : (b : Bool) → told r.answer ≡ refuse ((not b, 4) ∷ []) (plain 0) → b ≡ false
-      by true t = absurd (false≢true (sym e ∙ ap (λ (t : Told). eqb t.number 0) t))
-      by false t = refl
-
-  pub unmade_told : well_made d ≡ false → told r.answer ≡ plain 4
-  unmade_told e = so.0 ∙ ap (λ b. refuse ((not b, 4) ∷ []) (plain 0)) e
-
-  pub made_element : well_made d ≡ true → r.element ≡ element_of d
-  made_element e = so.1 ∙ ap (λ b. cond b (element_of d) nothing) e
+pub read_unmade : (made : Bool) (x : Element) (r : Refusal) → read made x ≡ Err r
+    → (made ≡ false) × (r ≡ Shape)
+read_unmade true x r q =
+    absurd (false≢true (sym (err_undone (read true x) r q) ∙ ok_done (read true x) x refl))
+read_unmade false x r q = (refl, IfErr-at_err (λ (y : Refusal). y ≡ Shape) q refl)

@@ -1,14 +1,16 @@
 -- What is found, refusal by refusal.
-use Prim.Native.Nat.{ℕ, zero, suc, ◌+◌, ◌-◌, ◌*◌, ◌/◌, ◌%◌, ◌≤◌, ◌<◌, min, max}
+use Prim.Native.Nat.{ℕ, ◌+◌, ◌-◌, ◌*◌, ◌/◌, ◌%◌, ◌≤◌, ◌<◌, min, max}
 use mathlib.Core.Path.{◌≡◌, refl, sym, ap, ap₂, ◌∙◌, subst}
-use mathlib.Core.Bool.{Bool, true, false, cond, not, ◌&&◌}
+use mathlib.Core.Bool.{Bool, true, false, cond, not, ◌&&◌, false≢true}
 use mathlib.Core.List.{List, ◌++◌}
 use native.Mathlib.Omega.{arith}
-use borrow.Author.Tests.{lt-ltb, le-ltb, le-leb, lt-leb}
+use borrow.Author.Tests.{lt-ltb, le-ltb}
 use lib.Dec.{leb, ltb, eqb}
 use lib.ListN.{length, drop}
-use Rattle.answer.specs.declared.Told.{Told}
-use Rattle.answer.specs.Answer.{told, plain, is_done}
+use Rattle.std.specs.Prelude.{Option, Some, None, is_some, Result, Ok, Err}
+use Rattle.std.specs.Option.{IfSome}
+use Rattle.std.proofs.lemmas.Result.{IfOk-weaker}
+use Rattle.answer.specs.Answer.{plain, is_done}
 use Rattle.answer.specs.Lent.{unless_refused}
 use Rattle.answer.proofs.Lent.{not_done, all_done}
 use Rattle.element.specs.declared.Element.{Element}
@@ -17,16 +19,17 @@ use Rattle.element.specs.Record.{element_of}
 use Rattle.hulls.specs.declared.Hull.{Hull}
 use Rattle.candidates.specs.declared.Try.{Try}
 use Rattle.chainfor.specs.declared.Found.{Found}
-use Rattle.hulls.specs.Hull.{hull_in, hull_of, rows_in}
+use Rattle.chainfor.specs.declared.Unfound.{Unfound}
+use Rattle.hulls.specs.Hull.{hull_in}
 use Rattle.hulls.proofs.Hulls.{rows_in_lem}
 use Rattle.candidates.specs.Candidates.{try_no, needed, links_of, length_of, link_byte, chain_by}
-use Rattle.dividing.specs.Least.{least_from}
-use Rattle.dividing.proofs.Least.{least_few, cond_yes, cond_no}
+use Rattle.dividing.specs.Least.{below}
+use Rattle.dividing.proofs.Least.{cond_yes, cond_no}
 use Rattle.takeapart.specs.declared.Way.{Way}
 use Rattle.takeapart.specs.Sum.{walked}
-use Rattle.chainfor.specs.Find.{tries, accepts, first_try, is_tried, sum_way, sum_links, sum_chain, sums}
+use Rattle.chainfor.specs.Find.{tries, first_try, is_tried, sum_way, sum_links, sum_chain, sums}
 use Rattle.chainfor.specs.Find.{is_searched, within, is_found, chain_for, links_for, find_tests, find_answer}
-use Rattle.chainfor.specs.Find.{gave_up, FoundAs, chain_left}
+use Rattle.chainfor.specs.Find.{told_found, gives_up, gave_up, FoundAs, chain_left}
 use Rattle.chainfor.specs.Steps.Summed.{sum_answer, SumAs, sum_left}
 use Rattle.chainfor.proofs.Sums.{sum_few, sum_short}
 use Rattle.basics.specs.Lists.{firsts, joined}
@@ -72,35 +75,44 @@ module _ (d : List ℕ) (H : Hull) (eh : H ≡ hull_in d) where
     sym (ap (λ b. well_made d && (b && not (is_searched d))) (far false e) ∙ none (well_made d)),
   )
 
-  pub tried_none : first_try d H ≡ tries → is_tried d ≡ false
-  unfolding is_tried
-  tried_none t =
-      sym (ap (λ (h : Hull). ltb (first_try d h) tries) eh)
-      ∙ le-ltb (first_try d H) tries (omega (arith, t))
+  -- the candidate that the search found, or none
+  tried_is : (r : Option ℕ) → r ≡ below tries (first_try d H) → is_some r ≡ is_tried d
+  unfolding is_tried below
+  tried_is r e =
+      ap is_some e ∙ by (ltb (first_try d H) tries) ∙ ap (λ (h : Hull). ltb (first_try d h) tries) eh
+    where
+      by : (b : Bool) → is_some (cond b (Some (first_try d H)) None) ≡ b
+      by true = refl
+      by false = refl
 
-  pub tried_some : (first_try d H ≡ tries → ⊥) → is_tried d ≡ true
-  unfolding is_tried first_try
-  tried_some t =
-      sym (ap (λ (h : Hull). ltb (least_from (accepts d h) 0 tries) tries) eh)
-      ∙ lt-ltb (least_from (accepts d H) 0 tries) tries
-      (omega (arith, least_few (accepts d H) tries 0, t))
+  pub tried_none : None ≡ below tries (first_try d H) → is_tried d ≡ false
+  tried_none e = sym (tried_is None e)
 
-  pub near_found : within H ≡ true → (first_try d H ≡ tries → ⊥) → (is_found d ≡ true) × (false ≡ gave_up d)
+  pub tried_some : (t : ℕ) → Some t ≡ below tries (first_try d H) → (t ≡ first_try d H) × (is_tried d ≡ true)
+  unfolding below
+  tried_some t e = (by (ltb (first_try d H) tries) e, sym (tried_is (Some t) e))
+    where
+      by : (b : Bool) → Some t ≡ cond b (Some (first_try d H)) None → t ≡ first_try d H
+      by true q =
+          sym (subst (λ (r : Option ℕ). IfSome r (λ n. n ≡ t)) q refl)
+      by false q = absurd (false≢true (sym (ap is_some q)))
+
+  pub near_found : within H ≡ true → is_tried d ≡ true → (is_found d ≡ true) × (false ≡ gave_up d)
   unfolding is_found gave_up is_searched
   near_found e t =
-      let f = ap (λ b. cond b true (sums d (sum_way d))) (tried_some t) in (
+      let f = ap (λ b. cond b true (sums d (sum_way d))) t in (
         ap₂ (λ a b. a && b) (far true e) f,
         sym (ap₂ (λ a b. well_made d && (a && not b)) (far true e) f ∙ none (well_made d)),
       )
 
   -- the chain that is written
   module _ (t : ℕ) (c : Try) (et : t ≡ first_try d H) (ec : c ≡ try_no t)
-      (some : first_try d H ≡ tries → ⊥) where
+      (some : is_tried d ≡ true) where
     pub links_found : (k : ℕ) → k ≡ links_of H c → k ≡ links_for d
     unfolding links_for
     links_found k e =
         e ∙ ap₂ (λ (h : Hull) (x : Try). links_of h x) eh (ec ∙ ap try_no (et ∙ ap (first_try d) eh))
-        ∙ sym (cond_yes (is_tried d) _ (sum_links (sum_way d)) (tried_some some))
+        ∙ sym (cond_yes (is_tried d) _ (sum_links (sum_way d)) some)
 
     pub chain_found : (k m : ℕ) → k ≡ links_of H c → m ≡ length_of H c
         → joined (λ i. firsts (link_byte H c i) m) k ≡ chain_for d
@@ -108,56 +120,32 @@ module _ (d : List ℕ) (H : Hull) (eh : H ≡ hull_in d) where
     chain_found k m ek em =
         chain_is H c k m ek em ∙ ap₂ (λ (h : Hull) (x : Try). chain_by h x) eh (ec ∙ ap try_no (et
         ∙ ap (first_try d) eh))
-        ∙ sym (cond_yes (is_tried d) _ (sum_chain (sum_way d)) (tried_some some))
+        ∙ sym (cond_yes (is_tried d) _ (sum_chain (sum_way d)) some)
 
     pub length_found : (k m : ℕ) → k ≡ links_of H c → m ≡ length_of H c → k * m ≡ length (chain_for d)
     length_found k m ek em =
         ap₂ (λ a b. a * b) ek em ∙ sym (chain_length H c) ∙ ap length (sym (chain_is H c k m ek em)
         ∙ chain_found k m ek em)
 
-pub within_near : (H : Hull) → H.across.span ≤ 35 → H.down.span ≤ 35 → within H ≡ true
-unfolding within
-within_near H a b = simp (le-leb H.across.span 35 a, le-leb H.down.span 35 b)
-
-pub within_across : (H : Hull) → 35 < H.across.span → within H ≡ false
-unfolding within
-within_across H a = ap (λ b. b && leb H.down.span 35) (lt-leb H.across.span 35 a)
-
-pub within_down : (H : Hull) → H.across.span ≤ 35 → 35 < H.down.span → within H ≡ false
-unfolding within
-within_down H a b = simp (le-leb H.across.span 35 a, lt-leb H.down.span 35 b)
-
 -- ---- the outcome
-module _ (d t : List ℕ) (r : Found) (n : ℕ) where
-  pub refused_so : 0 < n → find_answer d (length t) ≡ plain n → told r.answer ≡ plain n
-      → r.links ≡ 0 → r.bytes ≡ 0 → r.gave_up ≡ gave_up d
-      → FoundAs d (length t) r × (t ≡ chain_left d t)
+module _ (d t : List ℕ) (u : Unfound) (n : ℕ) where
+  pub refused_so : 0 < n → find_answer d (length t) ≡ plain n → told_found (Err u) ≡ plain n
+      → gives_up (Err u) ≡ gave_up d → FoundAs d (length t) (Err u) × (t ≡ chain_left d t)
   unfolding chain_left unless_refused
-  refused_so h e a l b g =
+  refused_so h e a g =
       let f = ap is_done e ∙ not_done n h in (
-        record {
-          answered = a ∙ sym e;
-          linked = l ∙ sym (ap (λ q. cond q (links_for d) 0) f);
-          written = b ∙ sym (ap (λ q. cond q (length (chain_for d)) 0) f);
-          tried = g;
-        },
+        record { answered = a ∙ sym e; found = tt; tried = g },
         sym (ap (λ q. cond q (chain_for d ++ drop (length (chain_for d)) t) t) f),
       )
 
-module _ (d t u : List ℕ) (r : Found) where
-  pub done_so : find_answer d (length t) ≡ plain 0 → told r.answer ≡ plain 0
-      → r.links ≡ links_for d → r.bytes ≡ length (chain_for d) → r.gave_up ≡ gave_up d
-      → u ≡ chain_for d ++ drop (length (chain_for d)) t
-      → FoundAs d (length t) r × (u ≡ chain_left d t)
-  unfolding chain_left unless_refused
-  done_so e a l b g w =
+module _ (d t u : List ℕ) (f : Found) where
+  pub done_so : find_answer d (length t) ≡ plain 0 → f.links ≡ links_for d → f.bytes ≡ length (chain_for d)
+      → false ≡ gave_up d → u ≡ chain_for d ++ drop (length (chain_for d)) t
+      → FoundAs d (length t) (Ok f) × (u ≡ chain_left d t)
+  unfolding chain_left unless_refused told_found gives_up
+  done_so e l b g w =
       let f = ap is_done e ∙ all_done in (
-        record {
-          answered = a ∙ sym e;
-          linked = l ∙ sym (ap (λ q. cond q (links_for d) 0) f);
-          written = b ∙ sym (ap (λ q. cond q (length (chain_for d)) 0) f);
-          tried = g;
-        },
+        record { answered = sym e; found = (l, b); tried = g },
         w ∙ sym (ap (λ q. cond q (chain_for d ++ drop (length (chain_for d)) t) t) f),
       )
 
@@ -210,16 +198,12 @@ chain_few d =
     by true k l x y p q u v = (p, u)
     by false k l x y p q u v = (q, v)
 
-pub found_few : (d : List ℕ) (room : ℕ) (r : Found) → FoundAs d room r → (r.links ≤ 5) × (r.bytes ≤ 60)
-found_few d room r f =
+pub found_few : (d : List ℕ) (room : ℕ) (f : Found) → FoundAs d room (Ok f) → (f.links ≤ 5) × (f.bytes ≤ 60)
+found_few d room f so =
     let h = chain_few d in (
-      subst (λ n. n ≤ 5) (sym f.linked) (held (is_done (find_answer d room)) h.0),
-      subst (λ n. n ≤ 60) (sym f.written) (held (is_done (find_answer d room)) h.1),
+      subst (λ n. n ≤ 5) (sym so.found.0) h.0,
+      subst (λ n. n ≤ 60) (sym so.found.1) h.1,
     )
-  where
-    held : (b : Bool) {n m : ℕ} → n ≤ m → cond b n 0 ≤ m
-    held true h = h
-    held false h = omega arith
 
 -- ---- a sum
 pub way_is : (d : List ℕ) (e : Element) → e ≡ element_of d
@@ -248,16 +232,17 @@ module _ (d : List ℕ) (made : well_made d ≡ true) (near : within (hull_in d)
   unfolding chain_for
   chain_sum = sym (cond_no (is_tried d) _ (sum_chain (sum_way d)) none)
 
-  pub summed_so : (t u : List ℕ) (w : Way) (r : Found) → w ≡ sum_way d → SumAs d w (length t) r
-      → u ≡ sum_left d w t → FoundAs d (length t) r × (u ≡ chain_left d t)
+  pub summed_so : (t u : List ℕ) (w : Way) (r : Result Found Unfound) → w ≡ sum_way d
+      → SumAs d w (length t) r → u ≡ sum_left d w t → FoundAs d (length t) r × (u ≡ chain_left d t)
   unfolding chain_left sum_left
   summed_so t u w r e s v =
       let a = ap (λ (x : Way). sum_answer d x (length t)) e ∙ sum_answer_lem (length t) in
       let c = ap sum_chain e ∙ chain_sum in (
         record {
           answered = s.answered ∙ a;
-          linked = s.linked ∙ ap₂ (λ x n. cond (is_done x) n 0) a (ap sum_links e ∙ links_sum);
-          written = s.written ∙ ap₂ (λ x l. cond (is_done x) (length l) 0) a c;
+          found =
+              IfOk-weaker r _ (λ f. (f.links ≡ links_for d) × (f.bytes ≡ length (chain_for d)))
+              (λ f p. (p.0 ∙ ap sum_links e ∙ links_sum, p.1 ∙ ap length c)) s.found;
           tried = s.tried ∙ ap (λ (x : Way). not (sums d x)) e ∙ sum_tried;
         },
         v ∙ ap₂ (λ x l. unless_refused x t (l ++ drop (length l) t)) a c,

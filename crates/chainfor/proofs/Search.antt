@@ -1,14 +1,15 @@
 -- A candidate as it is written and checked.
-use Prim.Native.Nat.{ℕ, zero, suc, ◌+◌, ◌-◌, ◌*◌, ◌≤◌, ◌<◌}
+use Prim.Native.Nat.{ℕ, ◌*◌, ◌≤◌}
 use mathlib.Core.Path.{◌≡◌, refl, sym, ap, ap₂, ◌∙◌}
-use mathlib.Core.Bool.{Bool, true, false, cond}
+use mathlib.Core.Bool.{Bool}
 use mathlib.Core.List.{List, ◌++◌}
-use native.Mathlib.Omega.{arith}
 use native.Mathlib.Nat.{mul-le-mul}
 use lib.ListN.{length, take}
 use lib.Seq.{take_at}
-use Rattle.answer.specs.declared.Told.{Told}
-use Rattle.answer.specs.Answer.{is_done}
+use Rattle.std.specs.Prelude.{Ok, Err}
+use Rattle.std.specs.Result.{is_ok}
+use Rattle.answer.specs.Answer.{Answer, told, plain, is_done}
+use Rattle.answer.proofs.Variants.{refused_undone}
 use Rattle.basics.specs.Lists.{firsts, joined}
 use Rattle.basics.proofs.Lists.{length_firsts}
 use Rattle.basics.proofs.Joined.{length_joined}
@@ -17,6 +18,12 @@ use Rattle.hulls.specs.declared.Hull.{Hull}
 use Rattle.candidates.specs.declared.Try.{Try}
 use Rattle.candidates.specs.Candidates.{try_no, links_of, length_of, link_byte, link_bytes, chain_by}
 use Rattle.chainfor.specs.Find.{accepts}
+
+-- what is accepted is done
+pub ok_is_done : (a : Answer) → is_ok a ≡ is_done (told a)
+unfolding told plain
+ok_is_done (Ok x) = refl
+ok_is_done (Err r) = sym (refused_undone r)
 
 -- five links of twelve bytes
 pub sixty : (k m : ℕ) → k ≤ 5 → m ≤ 12 → k * m ≤ 60
@@ -37,13 +44,13 @@ module _ (H : Hull) (c : Try) where
       (λ i. length_firsts (link_byte H c i) (length_of H c)) (links_of H c)
 
 pub accepted_is : (d : List ℕ) (H : Hull) (t : ℕ) (c : Try) (k m n : ℕ) (w rest : List ℕ)
-    (said : Told) (r : Bool)
+    (said : Answer) (r : Bool)
     → c ≡ try_no t → k ≡ links_of H c → m ≡ length_of H c → n ≡ k * m
     → w ≡ joined (λ i. firsts (link_byte H c i) m) k ++ rest
-    → said ≡ checked d k (take n w) → r ≡ is_done said → r ≡ accepts d H t
+    → told said ≡ checked d k (take n w) → r ≡ is_ok said → r ≡ accepts d H t
 unfolding accepts
 accepted_is d H t c k m n w rest said r ec ek em en ew es er =
-    er ∙ ap is_done es
+    er ∙ ok_is_done said ∙ ap is_done es
     ∙ ap (λ l. is_done (checked d k l))
     (ap₂ take en ew
     ∙ take_at (joined (λ i. firsts (link_byte H c i) m) k) rest (k * m)

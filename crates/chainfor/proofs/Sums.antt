@@ -1,16 +1,17 @@
 -- A sum as it is written and checked, refusal by refusal.
 use Prim.Native.Nat.{ℕ, ◌*◌, ◌≤◌, ◌<◌, min}
-use mathlib.Core.Path.{◌≡◌, refl, sym, ap, ap₂, ◌∙◌, subst}
-use mathlib.Core.Bool.{Bool, true, false, cond, not}
+use mathlib.Core.Path.{◌≡◌, sym, ap, ap₂, ◌∙◌}
+use mathlib.Core.Bool.{true, false, cond, not}
 use mathlib.Core.List.{List, ◌++◌}
 use native.Mathlib.Omega.{arith}
 use native.Mathlib.Nat.{le_refl}
 use borrow.Author.Tests.{lt-ltb, le-ltb}
-use lib.Dec.{ltb}
 use lib.ListN.{length, take, drop}
 use lib.Seq.{length-take-le, take_all}
-use Rattle.answer.specs.declared.Told.{Told}
-use Rattle.answer.specs.Answer.{told, plain, is_done}
+use Rattle.std.specs.Prelude.{Ok, Err}
+use Rattle.std.specs.Result.{is_ok}
+use Rattle.answer.specs.Answer.{Answer, told, plain, is_done}
+use Rattle.chainfor.proofs.Search.{ok_is_done}
 use Rattle.answer.specs.Lent.{unless_refused}
 use Rattle.answer.proofs.Lent.{not_done, all_done}
 use Rattle.basics.proofs.Lists.{length_firsts}
@@ -18,7 +19,8 @@ use Rattle.chain.specs.Reading.{checked}
 use Rattle.takeapart.specs.declared.Way.{Way}
 use Rattle.takeapart.specs.Sum.{sum_byte, sum_bytes}
 use Rattle.chainfor.specs.declared.Found.{Found}
-use Rattle.chainfor.specs.Find.{sum_links, sum_chain, sums}
+use Rattle.chainfor.specs.declared.Unfound.{Unfound}
+use Rattle.chainfor.specs.Find.{sum_links, sum_chain, sums, told_found, gives_up}
 use Rattle.chainfor.specs.Steps.Summed.{sum_answer, SumAs, sum_left}
 
 -- ---- how much there is
@@ -71,10 +73,10 @@ module _ (w : Way) where
     pub sum_bytes_are : n ≡ length (sum_chain w)
     sum_bytes_are = en ∙ ap (λ x. x * 12) sum_links_lem ∙ sym sum_length
 
-    pub sum_fits : (d : List ℕ) (said : Told) (r : Bool) → said ≡ checked d k (take n work) → r ≡ is_done said
-        → r ≡ sums d w
+    pub sum_fits : (d : List ℕ) (said : Answer) → told said ≡ checked d k (take n work)
+        → is_ok said ≡ sums d w
     unfolding sums
-    sum_fits d said r es er = er ∙ ap is_done (es ∙ ap₂ (checked d) sum_links_lem sum_chain_lem)
+    sum_fits d said es = ok_is_done said ∙ ap is_done (es ∙ ap₂ (checked d) sum_links_lem sum_chain_lem)
 
 -- ---- the answer
 module _ (d : List ℕ) (w : Way) (room : ℕ) where
@@ -91,35 +93,24 @@ module _ (d : List ℕ) (w : Way) (room : ℕ) where
   sum_done e h = simp (e, le-ltb room (length (sum_chain w)) h)
 
 -- ---- the outcome
-module _ (d t : List ℕ) (w : Way) (r : Found) where
-  pub sum_refused_so : (n : ℕ) → 0 < n → sum_answer d w (length t) ≡ plain n → told r.answer ≡ plain n
-      → r.links ≡ 0 → r.bytes ≡ 0 → r.gave_up ≡ not (sums d w)
-      → SumAs d w (length t) r × (t ≡ sum_left d w t)
+module _ (d t : List ℕ) (w : Way) where
+  pub sum_refused_so : (u : Unfound) (n : ℕ) → 0 < n → sum_answer d w (length t) ≡ plain n
+      → told_found (Err u) ≡ plain n → gives_up (Err u) ≡ not (sums d w)
+      → SumAs d w (length t) (Err u) × (t ≡ sum_left d w t)
   unfolding sum_left unless_refused
-  sum_refused_so n h e a l b g =
+  sum_refused_so u n h e a g =
       let f = ap is_done e ∙ not_done n h in (
-        record {
-          answered = a ∙ sym e;
-          linked = l ∙ sym (ap (λ q. cond q (sum_links w) 0) f);
-          written = b ∙ sym (ap (λ q. cond q (length (sum_chain w)) 0) f);
-          tried = g;
-        },
+        record { answered = a ∙ sym e; found = tt; tried = g },
         sym (ap (λ q. cond q (sum_chain w ++ drop (length (sum_chain w)) t) t) f),
       )
 
-  pub sum_done_so : (u : List ℕ) → sum_answer d w (length t) ≡ plain 0 → told r.answer ≡ plain 0
-      → r.links ≡ sum_links w
-      → r.bytes ≡ length (sum_chain w) → r.gave_up ≡ not (sums d w)
+  pub sum_done_so : (u : List ℕ) (f : Found) → sum_answer d w (length t) ≡ plain 0
+      → f.links ≡ sum_links w → f.bytes ≡ length (sum_chain w) → false ≡ not (sums d w)
       → u ≡ sum_chain w ++ drop (length (sum_chain w)) t
-      → SumAs d w (length t) r × (u ≡ sum_left d w t)
-  unfolding sum_left unless_refused
-  sum_done_so u e a l b g v =
-      let f = ap is_done e ∙ all_done in (
-        record {
-          answered = a ∙ sym e;
-          linked = l ∙ sym (ap (λ q. cond q (sum_links w) 0) f);
-          written = b ∙ sym (ap (λ q. cond q (length (sum_chain w)) 0) f);
-          tried = g;
-        },
-        v ∙ sym (ap (λ q. cond q (sum_chain w ++ drop (length (sum_chain w)) t) t) f),
+      → SumAs d w (length t) (Ok f) × (u ≡ sum_left d w t)
+  unfolding sum_left unless_refused told_found gives_up
+  sum_done_so u f e l b g v =
+      let q = ap is_done e ∙ all_done in (
+        record { answered = sym e; found = (l, b); tried = g },
+        v ∙ sym (ap (λ q. cond q (sum_chain w ++ drop (length (sum_chain w)) t) t) q),
       )

@@ -1,8 +1,9 @@
 -- A chain for an element: the first candidate that the check accepts, or else a sum; and the refusals.
 use Rattle.std.specs.Prelude.{ℕ, ◌-◌, ◌*◌, min, ◌≡◌, Bool, true, cond, not, ◌&&◌, List, [], ◌∷◌, ◌++◌}
-use Rattle.std.specs.Prelude.{leb, ltb, length, take, drop}
+use Rattle.std.specs.Prelude.{false, leb, ltb, length, take, drop, Result, Ok, Err, IfOk}
 use Rattle.answer.specs.declared.Told.{Told}
-use Rattle.answer.specs.Answer.{told, plain, is_done}
+use Rattle.answer.specs.declared.Refusal.TheVariants.{NoChain}
+use Rattle.answer.specs.Answer.{told_refusal, plain, is_done}
 use Rattle.answer.specs.Refuse.{Test, refuse}
 use Rattle.answer.specs.Lent.{unless_refused}
 use Rattle.element.specs.Descriptor.{well_made, origin_column_of, origin_row_of}
@@ -13,6 +14,8 @@ use Rattle.dividing.specs.Least.{least_from}
 use Rattle.takeapart.specs.declared.Way.{Way}
 use Rattle.takeapart.specs.Sum.{sum_bytes, walked}
 use Rattle.chainfor.specs.declared.Found.{Found}
+use Rattle.chainfor.specs.declared.Unfound.{Unfound}
+use Rattle.chainfor.specs.declared.Unfound.TheVariants.{Refused, GaveUp}
 use Rattle.hulls.specs.Hull.{hull_in, rows_in}
 use Rattle.candidates.specs.Candidates.{try_no, links_of, chain_by}
 
@@ -78,12 +81,22 @@ find_answer d room = refuse (find_tests d room) (plain 0)
 unfoldable pub gave_up : List ℕ → Bool
 gave_up d = well_made d && (within (hull_in d) && not (is_searched d))
 
--- what find_chain answers: links and bytes are 0 where it is refused
-pub record FoundAs (d : List ℕ) (room : ℕ) (r : Found) : Type 0 where
-  pub answered : told r.answer ≡ find_answer d room
-  pub linked : r.links ≡ cond (is_done (find_answer d room)) (links_for d) 0
-  pub written : r.bytes ≡ cond (is_done (find_answer d room)) (length (chain_for d)) 0
-  pub tried : r.gave_up ≡ gave_up d
+-- what is told of an outcome: to give up is a NOCHAIN
+unfoldable pub told_found : Result Found Unfound → Told
+told_found (Ok f) = plain 0
+told_found (Err (Refused r)) = told_refusal r
+told_found (Err GaveUp) = told_refusal NoChain
+
+unfoldable pub gives_up : Result Found Unfound → Bool
+gives_up (Ok f) = false
+gives_up (Err (Refused r)) = false
+gives_up (Err GaveUp) = true
+
+-- what find_chain answers
+pub record FoundAs (d : List ℕ) (room : ℕ) (r : Result Found Unfound) : Type 0 where
+  pub answered : told_found r ≡ find_answer d room
+  pub found : IfOk r (λ f. (f.links ≡ links_for d) × (f.bytes ≡ length (chain_for d)))
+  pub tried : gives_up r ≡ gave_up d
 
 -- the lent bytes afterwards: the chain, and the further bytes stay
 unfoldable pub chain_left : List ℕ → List ℕ → List ℕ

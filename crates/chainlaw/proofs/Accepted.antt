@@ -1,12 +1,12 @@
 -- A box in parts is accepted: no offset is at fault.
-use Prim.Native.Nat.{ℕ, ◌+◌, ◌-◌, ◌*◌, ◌≤◌, ◌<◌, min, max}
+use Prim.Native.Nat.{ℕ, ◌+◌, ◌-◌, ◌≤◌, min, max}
 use mathlib.Core.Path.{◌≡◌, refl}
 use mathlib.Core.Logic.{inl, inr, ⊎_elim}
 use mathlib.Core.List.{List}
 use native.Mathlib.Omega.{arith}
 use Rattle.answer.specs.Answer.{centre}
 use Rattle.element.specs.Shape.{Shape}
-use Rattle.morphology.specs.Step.{Place, Cell, Step}
+use Rattle.morphology.specs.Step.{Place}
 use Rattle.morphology.specs.Chain.{Chained}
 use Rattle.morphology.specs.Check.{still, Verdict, Taken, Split, check_of}
 use Rattle.morphology.proofs.Places.{FaultAt, missed_at, extra_at, SaysAt}

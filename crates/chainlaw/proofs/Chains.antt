@@ -1,5 +1,5 @@
 -- Links one after another in bytes, read back: none is refused, and they are the links.
-use Prim.Native.Nat.{ℕ, zero, suc, ◌+◌, ◌≤◌}
+use Prim.Native.Nat.{ℕ, zero, suc, ◌+◌}
 use mathlib.Core.Path.{◌≡◌, refl, sym, ap, ap₂, ◌∙◌, subst}
 use mathlib.Core.Bool.{true, not}
 use mathlib.Core.List.{List, [], ◌∷◌, ◌++◌, append_assoc, append-nil}
@@ -7,10 +7,10 @@ use native.Mathlib.Omega.{arith}
 use lib.ListN.{length, take, drop}
 use lib.Seq.{take_at, drop_at}
 use Rattle.answer.specs.declared.Told.{Told}
-use Rattle.answer.specs.Refuse.{Test, refuse}
+use Rattle.answer.specs.Refuse.{refuse}
 use Rattle.basics.specs.Lists.{joined}
 use Rattle.element.specs.Shape.{Shape}
-use Rattle.element.specs.Descriptor.{wide_of, high_of, well_made, shape_in, descriptor_length}
+use Rattle.element.specs.Descriptor.{wide_of, high_of, well_made, shape_in}
 use Rattle.element.proofs.Cells.{ends_there}
 use Rattle.chain.specs.Reading.{first_of, rest_of, small, link_tests, links_in}
 use Rattle.hulls.specs.declared.Side.{Side}

@@ -2,12 +2,11 @@
 use Prim.Native.Nat.{ℕ, zero, suc, ◌+◌, ◌-◌, ◌*◌, ◌≤◌, ◌<◌, min, max}
 use mathlib.Core.Path.{◌≡◌, refl, sym, ap, ap₂, ◌∙◌, subst}
 use mathlib.Core.Bool.{Bool, true, false, cond, not, ◌&&◌, false≢true}
-use mathlib.Core.List.{List, [], ◌∷◌}
-use mathlib.Core.Logic.{◌⊎◌, inl, inr, ⊎_elim}
+use mathlib.Core.List.{List, ◌∷◌}
+use mathlib.Core.Logic.{⊎_elim}
 use native.Mathlib.Omega.{arith}
-use native.Mathlib.Nat.{not-suc-le-zero}
 use borrow.Author.Tests.{le-leb, lt-ltb}
-use lib.Dec.{T, leb, ltb}
+use lib.Dec.{T}
 use lib.ListN.{get_or}
 use Rattle.answer.specs.declared.Told.{Told}
 use Rattle.answer.specs.Answer.{told, plain, is_done}
@@ -16,14 +15,14 @@ use Rattle.answer.proofs.Lent.{all_done}
 use Rattle.basics.specs.Bytes.{Bytes}
 use Rattle.basics.specs.Lists.{joined}
 use Rattle.element.specs.Shape.{Shape}
-use Rattle.element.specs.Descriptor.{most_cells, wide_of, high_of, origin_column_of, origin_row_of, well_made}
+use Rattle.element.specs.Descriptor.{wide_of, high_of, origin_column_of, origin_row_of, well_made}
 use Rattle.element.specs.Descriptor.{shape_in}
-use Rattle.element.specs.Record.{cell_on, element_of, shape_of}
+use Rattle.element.specs.Record.{cell_on, shape_of}
 use Rattle.element.proofs.Cells.{cell_same}
 use Rattle.element.proofs.WellMade.{cells_tell, made_cells}
 use Rattle.faults.specs.Verdicts.{answer_of}
 use Rattle.morphology.specs.Check.{Taken, check_of}
-use Rattle.chain.specs.Reading.{counted, link_tests, chain_tests, check_tests, links_in, checked}
+use Rattle.chain.specs.Reading.{link_tests, chain_tests, check_tests, links_in, checked}
 use Rattle.chain.proofs.Checking.{well_chained}
 use Rattle.hulls.specs.declared.Hull.{Hull}
 use Rattle.hulls.specs.declared.Side.{Side}
@@ -31,17 +30,16 @@ use Rattle.hulls.specs.Extent.{extent_of}
 use Rattle.hulls.specs.Hull.{hull_in, rows_in, side_of, hull_by, hull_of}
 use Rattle.candidates.specs.Candidates.{try_no, needed, links_of, link_bytes, chain_by}
 use Rattle.dividing.specs.Least.{least_from}
-use Rattle.chainfor.specs.Find.{tries, accepts, first_try, is_tried, sum_way, sums, is_searched, within}
+use Rattle.chainfor.specs.Find.{tries, accepts, first_try, is_tried, sum_way, sums, is_searched}
 use Rattle.chainfor.specs.Find.{is_found}
 use Rattle.candidates.proofs.Numbers.{needs_one, needs_two, needs_three, needs_four, needs_five}
 use Rattle.hulls.proofs.Hulls.{rows_in_lem}
-use Rattle.chainfor.proofs.Finding.{within_near}
 use Rattle.chainlaw.specs.Boxes.{Filled, InReach}
 use Rattle.chainlaw.proofs.Parts.{le_or}
 use Rattle.chainlaw.proofs.Walks.{PartOf, PartsFrom, Ended, end_of}
 use Rattle.chainlaw.proofs.Links.{box, link_made, link_small, link_part}
 use Rattle.chainlaw.proofs.Chains.{shapes_from, none_refused, links_are, parts_are, end_is}
-use Rattle.chainlaw.proofs.Measured.{all_around, all_inside}
+use Rattle.chainlaw.proofs.Measured.{all_around, all_inside, within_near}
 use Rattle.chainlaw.proofs.Accepted.{Adds, side_adds, box_taken}
 
 -- as many links of 7 as a side needs are enough

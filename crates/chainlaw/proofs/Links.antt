@@ -1,18 +1,16 @@
 -- The links of the box's candidate: descriptors that are well made, and the parts of the box.
-use Prim.Native.Nat.{ℕ, zero, suc, ◌+◌, ◌-◌, ◌*◌, ◌/◌, ◌%◌, ◌≤◌, ◌<◌, min, max}
+use Prim.Native.Nat.{ℕ, ◌+◌, ◌-◌, ◌*◌, ◌/◌, ◌%◌, ◌≤◌, ◌<◌, min, max}
 use mathlib.Core.Path.{◌≡◌, refl, sym, ap, ap₂, ◌∙◌, subst}
 use mathlib.Core.Bool.{Bool, true, false, cond, ◌&&◌}
 use mathlib.Core.List.{List}
 use mathlib.Core.Logic.{◌⊎◌, inl, inr, ⊎_elim}
 use native.Mathlib.Omega.{arith}
 use borrow.Author.Tests.{le-leb, lt-ltb, eq-eqb, eqb-true, lt-leb}
-use lib.Bits.{bit_and}
-use lib.Dec.{T, leb, ltb, eqb, leb→le}
-use lib.ListN.{length, get_or, drop}
+use lib.Dec.{T, leb, eqb}
+use lib.ListN.{length, get_or}
 use lib.Pow.{shr_le}
 use lib.Seq.{get_or-drop}
 use Rattle.basics.specs.Bits.{bit}
-use Rattle.basics.specs.Lists.{firsts}
 use Rattle.basics.specs.Tests.{all}
 use Rattle.basics.proofs.Lists.{length_firsts, get_d_firsts}
 use Rattle.basics.proofs.Tests.{all_at}
@@ -20,18 +18,16 @@ use Rattle.picture.specs.declared.Depth.TheVariants.{OneBit}
 use Rattle.picture.specs.Points.{value_at, value_in}
 use Rattle.picture.specs.Bytes.{padding_clear}
 use Rattle.picture.proofs.Padding.{zero_clear}
-use Rattle.element.specs.Shape.{Shape}
 use Rattle.element.specs.Descriptor.{most_cells, wide_of, high_of, origin_column_of, origin_row_of, cells_of}
 use Rattle.element.specs.Descriptor.{cells_end}
 use Rattle.element.specs.Descriptor.{head_made, cells_made, well_made, shape_in}
 use Rattle.chain.specs.Reading.{small}
 use Rattle.hulls.specs.declared.Hull.{Hull}
-use Rattle.hulls.specs.declared.Side.{Side}
 use Rattle.candidates.specs.declared.Try.{Try}
 use Rattle.candidates.specs.Candidates.{part, run_byte, row_with, row_byte, link_byte, link_bytes, length_of}
 use Rattle.candidates.proofs.Numbers.{byte_wide, byte_high, byte_column, byte_row_lem, byte_boxed}
 use Rattle.candidates.proofs.Numbers.{row_above, row_below, row_in}
-use Rattle.chainlaw.proofs.Parts.{part_few, part_mono, le_or}
+use Rattle.chainlaw.proofs.Parts.{part_few, le_or}
 use Rattle.chainlaw.proofs.Walks.{PartOf}
 
 -- the candidate of a box

@@ -1,17 +1,25 @@
 -- What is measured of an element whose set cells fill a rectangle: its four ends.
-use Prim.Native.Nat.{ℕ, zero, suc, ◌+◌, ◌-◌, ◌≤◌, ◌<◌, min, max}
-use mathlib.Core.Path.{◌≡◌, refl, sym, ap, ap₂, ◌∙◌, subst}
+use Prim.Native.Nat.{ℕ, zero, suc, ◌≤◌, ◌<◌}
+use mathlib.Core.Path.{◌≡◌, sym, subst}
 use mathlib.Core.Bool.{Bool, true, false, cond}
 use mathlib.Core.List.{List}
 use mathlib.Core.Logic.{⊎_elim}
 use native.Mathlib.Omega.{arith}
 use native.Mathlib.Nat.{not-suc-le-zero, le_of_suc-le-suc, eq-or-lt_of_le}
+use borrow.Author.Tests.{le-leb}
 use lib.Dec.{T}
 use lib.ListN.{get_or}
 use Rattle.element.specs.Descriptor.{most_cells}
 use Rattle.element.specs.Record.{cell_on}
 use Rattle.hulls.specs.declared.Extent.{Extent}
+use Rattle.hulls.specs.declared.Hull.{Hull}
 use Rattle.hulls.specs.Extent.{unseen, with_cell, seen, row_extent, extent_of}
+use Rattle.chainfor.specs.Find.{within}
+
+-- what the sums of a chain can span
+pub within_near : (H : Hull) → H.across.span ≤ 35 → H.down.span ≤ 35 → within H ≡ true
+unfolding within
+within_near H a b = simp (le-leb H.across.span 35 a, le-leb H.down.span 35 b)
 
 -- the extent holds the cell (x, y)
 pub record Around (b : Extent) (x y : ℕ) : Type 0 where

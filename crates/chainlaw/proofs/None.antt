@@ -1,7 +1,7 @@
 -- Where the set cells and the origin span more than the sums of five links, no chain is accepted.
-use Prim.Native.Nat.{ℕ, ◌+◌, ◌-◌, ◌*◌, ◌≤◌, ◌<◌, min, max}
-use mathlib.Core.Path.{◌≡◌, refl, sym, ap, ◌∙◌, subst}
-use mathlib.Core.Bool.{true, false, false≢true}
+use Prim.Native.Nat.{ℕ, ◌+◌, ◌-◌, ◌*◌, ◌≤◌}
+use mathlib.Core.Path.{◌≡◌, sym, ap, ◌∙◌, subst}
+use mathlib.Core.Bool.{true}
 use mathlib.Core.List.{List, [], ◌∷◌}
 use native.Mathlib.Omega.{arith}
 use lib.Dec.{T}
@@ -11,7 +11,7 @@ use Rattle.answer.specs.Answer.{centre}
 use Rattle.basics.specs.Bytes.{Bytes}
 use Rattle.element.specs.Shape.{Shape}
 use Rattle.element.specs.Descriptor.{wide_of, high_of, origin_column_of, origin_row_of, well_made, shape_in}
-use Rattle.element.specs.Record.{cell_on, element_of, shape_of}
+use Rattle.element.specs.Record.{cell_on, shape_of}
 use Rattle.element.proofs.Cells.{cell_same}
 use Rattle.element.proofs.WellMade.{cells_tell, made_cells}
 use Rattle.morphology.specs.Step.{Place, Cell, In}
@@ -20,13 +20,11 @@ use Rattle.morphology.specs.Check.{still, total, back_x, forth_x, back_y, forth_
 use Rattle.morphology.proofs.Places.{Walk, FaultAt}
 use Rattle.morphology.proofs.Scan.{walk_range}
 use Rattle.morphology.proofs.Agree.{to_chain}
-use Rattle.hulls.specs.declared.Hull.{Hull}
 use Rattle.hulls.specs.Extent.{extent_of}
 use Rattle.hulls.specs.Hull.{hull_in, rows_in, side_of, hull_by, hull_of}
 use Rattle.chainfor.specs.Find.{within}
 use Rattle.hulls.proofs.Hulls.{rows_in_lem}
-use Rattle.chainfor.proofs.Finding.{within_near}
-use Rattle.chainlaw.proofs.Measured.{Inside, all_inside}
+use Rattle.chainlaw.proofs.Measured.{Inside, all_inside, within_near}
 
 -- the sums of links span 7 columns and rows for each, and one more
 pub spans : (Bs : List Shape) → AllFit most_link_cells Bs

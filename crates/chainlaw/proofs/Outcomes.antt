@@ -1,19 +1,22 @@
 -- What an outcome that the contract of `chainfor::find_chain` allows means.
-use Prim.Native.Nat.{ℕ, zero, suc, ◌+◌, ◌*◌, ◌≤◌, ◌<◌}
-use mathlib.Core.Path.{◌≡◌, refl, sym, ap, ap₂, ◌∙◌, subst}
+use Prim.Native.Nat.{ℕ, zero, suc, ◌+◌, ◌≤◌, ◌<◌}
+use mathlib.Core.Path.{◌≡◌, refl, sym, ap, ap₂, ◌∙◌}
 use mathlib.Core.Bool.{Bool, true, false, cond, not, ◌&&◌, false≢true}
 use mathlib.Core.List.{List, [], ◌∷◌, ◌++◌}
 use mathlib.Core.Logic.{◌⊎◌, inl, inr, ⊎_elim}
 use native.Mathlib.Omega.{arith}
-use borrow.Author.Tests.{ltb-true, ne_eqb}
+use borrow.Author.Tests.{ltb-true}
 use lib.Dec.{ltb}
 use lib.ListN.{length, take, drop}
 use lib.Seq.{take_at}
 use Rattle.answer.specs.declared.Told.{Told}
-use Rattle.answer.specs.Answer.{told, plain, is_done}
-use Rattle.answer.specs.Refuse.{Test, refuse}
+use Rattle.std.specs.Prelude.{Result, Ok, Err}
+use Rattle.std.proofs.lemmas.Result.{IfOk-at_ok}
+use Rattle.answer.specs.declared.Refusal.TheVariants.{NoChain}
+use Rattle.answer.specs.Answer.{told, told_refusal, plain, is_done}
+use Rattle.answer.specs.Refuse.{refuse}
 use Rattle.answer.specs.Lent.{unless_refused}
-use Rattle.answer.proofs.Order.{refused, none_given, done_exactly}
+use Rattle.answer.proofs.Order.{refused, done_exactly}
 use Rattle.answer.proofs.Lent.{not_done, all_done}
 use Rattle.basics.specs.Bytes.{Bytes}
 use Rattle.element.specs.Shape.{Shape}
@@ -28,11 +31,13 @@ use Rattle.chain.specs.Reading.{check_tests, links_in, checked}
 use Rattle.chain.proofs.Checking.{well_chained, check_number, check_numbered}
 use Rattle.hulls.specs.Hull.{hull_in}
 use Rattle.chainfor.specs.declared.Found.{Found}
+use Rattle.chainfor.specs.declared.Unfound.{Unfound}
+use Rattle.chainfor.specs.declared.Unfound.TheVariants.{Refused}
 use Rattle.candidates.specs.Candidates.{try_no, links_of, chain_by}
 use Rattle.dividing.specs.Least.{least_from}
 use Rattle.chainfor.specs.Find.{tries, accepts, first_try, is_tried, sum_way, sum_links, sum_chain, sums}
 use Rattle.chainfor.specs.Find.{within, is_found, chain_for, links_for, find_tests, find_answer, gave_up}
-use Rattle.chainfor.specs.Find.{FoundAs}
+use Rattle.chainfor.specs.Find.{told_found, gives_up, FoundAs}
 use Rattle.chainfor.specs.Find.{is_searched, chain_left}
 use Rattle.chainfor.proofs.Finding.{find_done, chain_few}
 use Rattle.chainlaw.specs.Boxes.{Filled, InReach}
@@ -59,7 +64,7 @@ module _ (d : List ℕ) (k : ℕ) (c : List ℕ) where
       (λ q. false≢true (sym (not_done n (omega (arith, q))) ∙ e)) o
 
   pub done_plain : is_done (checked d k c) ≡ true → checked d k c ≡ plain 0
-  unfolding answer_of told
+  unfolding answer_of told told_refusal
   done_plain e =
       ⊎_elim (λ o. by (check_of (shape_in d) (links_in k c)) o.0)
       (λ o. absurd (six o.0 o.1 (sym (ap is_done o.2) ∙ e))) met
@@ -71,7 +76,7 @@ module _ (d : List ℕ) (k : ℕ) (c : List ℕ) where
   -- it has its limits, and no offset is at fault
   pub faultless : checked d k c ≡ plain 0
       → Chained (shape_in d) (links_in k c) × ((e : Place) → ¬ FaultAt (shape_in d) (links_in k c) e)
-  unfolding answer_of told
+  unfolding answer_of told told_refusal
   faultless z =
       let e = ap is_done z ∙ all_done in
       ⊎_elim (λ o.
@@ -131,8 +136,9 @@ tell false f s n e =
     let z : 4 ≡ n = ap (λ (t : Told). t.number) e in
     (λ q. absurd (omega (arith, z, q)), λ q. absurd (omega (arith, z, q)))
 
-module _ (d t u : List ℕ) (r : Found) (f : FoundAs d (length t) r) (w : u ≡ chain_left d t) where
-  said : (n : ℕ) → told r.answer ≡ plain n
+module _ (d t u : List ℕ) (r : Result Found Unfound) (f : FoundAs d (length t) r)
+    (w : u ≡ chain_left d t) where
+  said : (n : ℕ) → told_found r ≡ plain n
       → (n ≡ 0 → (well_made d ≡ true) × (is_found d ≡ true)) × (n ≡ 18
       → (well_made d ≡ true) × (is_found d ≡ false))
   unfolding find_answer find_tests
@@ -143,27 +149,29 @@ module _ (d t u : List ℕ) (r : Found) (f : FoundAs d (length t) r) (w : u ≡ 
   split_and false b e = absurd (false≢true e)
 
   -- what is written is a chain that the check accepts
-  pub written_accepted : told r.answer ≡ plain 0 → checked d r.links (take r.bytes u) ≡ plain 0
-  unfolding is_found chain_left unless_refused
-  written_accepted e =
+  pub written_accepted : (x : Found) → r ≡ Ok x → checked d x.links (take x.bytes u) ≡ plain 0
+  unfolding is_found chain_left unless_refused told_found
+  written_accepted x o =
+      let e : told_found r ≡ plain 0 = ap (λ (r : Result Found Unfound). told_found r) o in
       let q = sym f.answered ∙ e in
+      let so = IfOk-at_ok (λ (x : Found). (x.links ≡ links_for d) × (x.bytes ≡ length (chain_for d)))
+      o f.found in
       let done = ap is_done q ∙ all_done in
-      let l : r.links ≡ links_for d = f.linked ∙ ap (λ b. cond b (links_for d) 0) done in
-      let n : r.bytes ≡ length (chain_for d) = f.written ∙ ap (λ b. cond b (length (chain_for d)) 0) done in
       let v : u ≡ chain_for d ++ drop (length (chain_for d)) t =
       w ∙ ap (λ b. cond b (chain_for d ++ drop (length (chain_for d)) t) t) done in
       let i = split_and (within (hull_in d)) (is_searched d) ((said 0 e).0 refl).1 in
       let passed = found_accepted d i.1 in
-      λ i. (ap₂ (λ k c. checked d k c) l
-      (ap₂ take n v ∙ take_at (chain_for d) (drop (length (chain_for d)) t) (length (chain_for d)) refl)
+      λ i. (ap₂ (λ k c. checked d k c) so.0
+      (ap₂ take so.1 v ∙ take_at (chain_for d) (drop (length (chain_for d)) t) (length (chain_for d)) refl)
       ∙ done_plain d (links_for d) (chain_for d) passed) i
 
-  -- where no chain was found and the search did not give up, there is none
-  pub none_exists : Bytes d → told r.answer ≡ plain 18 → r.gave_up ≡ false
+  -- where the call is refused as NOCHAIN, and so the search did not give up, there is none
+  pub none_exists : Bytes d → r ≡ Err (Refused NoChain)
       → (k : ℕ) (c : List ℕ) → checked d k c ≡ plain 0 → ⊥
-  unfolding is_found gave_up
-  none_exists bytes e g k c a =
-      let s = (said 18 e).1 refl in
+  unfolding is_found gave_up told_found told_refusal gives_up
+  none_exists bytes o k c a =
+      let s = (said 18 (ap (λ (r : Result Found Unfound). told_found r) o)).1 refl in
+      let g : gives_up r ≡ false = ap (λ (r : Result Found Unfound). gives_up r) o in
       let z = faultless d k c a in
       let h = accepted_within d bytes s.0 (links_in k c) z.0 z.1 in
       false≢true (sym g ∙ f.tried
@@ -172,7 +180,7 @@ module _ (d t u : List ℕ) (r : Found) (f : FoundAs d (length t) r) (w : u ≡ 
 
   -- a rectangle that can have a chain gets one, where there is room
   pub rectangle_found : Bytes d → well_made d ≡ true → (a b c e : ℕ) → Filled (shape_in d) a b c e
-      → InReach (shape_in d) a b c e → 60 ≤ length t → told r.answer ≡ plain 0
+      → InReach (shape_in d) a b c e → 60 ≤ length t → told_found r ≡ plain 0
   rectangle_found bytes made a b c e F R long =
       f.answered
       ∙ find_done d (length t) made (box_found d bytes made a b c e F R) (omega

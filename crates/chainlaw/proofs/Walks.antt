@@ -1,18 +1,17 @@
 -- Walks through links that are the parts of a box.
-use Prim.Native.Nat.{ℕ, zero, suc, ◌+◌, ◌-◌, ◌*◌, ◌≤◌, ◌<◌, min, max}
+use Prim.Native.Nat.{ℕ, suc, ◌+◌, ◌-◌, ◌*◌, ◌≤◌, ◌<◌, min, max}
 use mathlib.Core.Path.{◌≡◌}
-use mathlib.Core.Logic.{◌⊎◌, inl, inr, ⊎_elim}
+use mathlib.Core.Logic.{inl, inr}
 use mathlib.Core.List.{List, [], ◌∷◌}
 use native.Mathlib.Omega.{arith}
 use lib.Dec.{T}
 use Rattle.answer.specs.Answer.{centre}
 use Rattle.element.specs.Shape.{Shape}
-use Rattle.morphology.specs.Step.{Place, Cell, Step}
-use Rattle.morphology.specs.Check.{still}
+use Rattle.morphology.specs.Step.{Place, Step}
 use Rattle.morphology.proofs.Places.{Walk, BetweenAt}
 use Rattle.hulls.specs.declared.Side.{Side}
 use Rattle.candidates.specs.Candidates.{part}
-use Rattle.chainlaw.proofs.Parts.{rest, rest_none, part_few, part_mono, Leads, Goes, Way, then_leads}
+use Rattle.chainlaw.proofs.Parts.{rest_none, Leads, Goes, Way, then_leads}
 use Rattle.chainlaw.proofs.Parts.{next}
 
 module _ (X Y : Side) where

@@ -3,7 +3,8 @@
 // tools/cases makes the lines, says what their letters and numbers mean, and makes what must be printed.
 #![tactic(auto)]
 
-use answer::Answer;
+use answer::{Answer, Refusal};
+use chainfor::Unfound;
 use lines::Head;
 use picture::Depth;
 use std::io;
@@ -45,15 +46,21 @@ fn flag(rt: &impl Print, name: &[u8], n: usize) -> io::Result<()> {
     show::text(rt, b"\n")
 }
 
+fn written(rt: &impl Print, said: Answer, links: usize, bytes: usize) -> io::Result<()> {
+    show::answered(rt, said)?;
+    flag(rt, b"links ", links)?;
+    flag(rt, b"bytes ", bytes)
+}
+
 // The search for a chain: what it answers, its links, its bytes, whether it gave up, and the lent buffer.
 fn search(rt: &impl Print, element: &[u8], chain: &mut [u8]) -> io::Result<()> {
-    let found = chainfor::find_chain(element, chain);
-    let said: Answer = found.answer;
-    show::answered(rt, said)?;
-    flag(rt, b"links ", found.links)?;
-    flag(rt, b"bytes ", found.bytes)?;
-    if found.gave_up {
-        show::text(rt, b"gave up\n")?;
+    match chainfor::find_chain(element, chain) {
+        Ok(found) => written(rt, Ok(()), found.links, found.bytes)?,
+        Err(Unfound::Refused(r)) => written(rt, Err(r), 0, 0)?,
+        Err(Unfound::GaveUp) => {
+            written(rt, Err(Refusal::NoChain), 0, 0)?;
+            show::text(rt, b"gave up\n")?;
+        }
     }
     show::buffer(rt, b"chain", &chain[..])
 }
@@ -67,7 +74,10 @@ fn searched(rt: &impl Print, line: &[u8], at: usize) -> io::Result<()> {
 }
 
 // A label, or a job.
-fn job(rt: &impl Print, letter: u8, line: &[u8]) -> io::Result<()> {
+fn job(rt: &impl Print, line: &[u8]) -> io::Result<()> {
+    let Some(&letter) = line.first() else {
+        return Ok(());
+    };
     if letter == b'#' {
         return show::text(rt, line);
     }
@@ -82,11 +92,8 @@ fn job(rt: &impl Print, letter: u8, line: &[u8]) -> io::Result<()> {
 }
 
 fn each_line(rt: &impl Print, input: &[u8]) -> io::Result<()> {
-    let mut at = 0;
-    while at < input.len() {
-        let end = numbers::line_end(input, at);
-        job(rt, input[at], &input[at..end])?;
-        at = end;
+    for line in input.split_inclusive(|b| *b == b'\n') {
+        job(rt, line)?;
     }
     Ok(())
 }

@@ -3,13 +3,16 @@ use Prim.Native.Nat.{ℕ, ◌+◌, ◌-◌, ◌*◌, ◌/◌, ◌%◌, ◌^◌, 
 use mathlib.Core.Path.{◌≡◌, refl, sym, ap, ap₂, ◌∙◌}
 use mathlib.Core.Bool.{Bool, true, false, cond, not}
 use mathlib.Core.List.{List}
+use native.Mathlib.Omega.{arith}
 use borrow.Author.Tests.{eq-eqb, ne_eqb}
 use lib.Bits.{bit_and}
 use lib.Dec.{eqb}
 use Rattle.dividing.specs.Board.{is_set, window}
 use Rattle.dividing.specs.Divide.{rest_of}
-use Rattle.dividing.proofs.Least.{cond_yes, cond_no}
-use Rattle.covering.specs.Cover.{first_bare}
+use Rattle.dividing.proofs.Least.{cond_yes, cond_no, least_few, is_none_below}
+use Rattle.std.specs.Prelude.{Option, None, is_some, is_none}
+use Rattle.dividing.specs.Least.{below}
+use Rattle.covering.specs.Cover.{bare, first_bare}
 use Rattle.covering.specs.Quarter.{all_cells, quarter, link_quarter}
 use Rattle.choosing.specs.Link.{link_no, fits, quarter_suits, suits, origin_for, origin_by, origin_no}
 
@@ -60,18 +63,31 @@ module _ (link j : ℕ) (single a b : Bool) (ea : a ≡ is_set link (j % 8)) whe
         sym (both q ∙ cond_no single true last s
         ∙ cond_no (eqb (63 - j / 8 % 64) (j % 8)) false _ (ne_eqb _ _ n))
 
+-- no row is left bare
+pub no_bare : (rows : List ℕ) (link a : ℕ) (rest : List ℕ) (r : Option ℕ)
+    → r ≡ below 64 (first_bare rows link a rest) → is_none r ≡ eqb (first_bare rows link a rest) 64
+unfolding first_bare
+no_bare rows link a rest r e =
+    is_none_below 64 (first_bare rows link a rest) (least_few (bare rows link a rest) 64 0) r e
+
 -- ---- whether an origin suits
 module _ (rows : List ℕ) (column row link a : ℕ) (rest : List ℕ) (o : ℕ) where
-  pub quarter_is : (right lower : Bool) (whole part : List ℕ) (cells r : ℕ)
+  pub quarter_is : (right lower : Bool) (whole part : List ℕ) (cells : ℕ) (r : Option ℕ)
       → whole ≡ quarter rows column row right lower
       → part ≡ quarter rest ((column % 64 + a % 8 + (64 - o % 8)) % 64) ((row % 64 + (64 - o / 8 % 8)) % 64)
       right lower
-      → cells ≡ link_quarter link o right lower → r ≡ first_bare whole cells a part
-      → eqb r 64 ≡ quarter_suits rows column row link a rest o right lower
+      → cells ≡ link_quarter link o right lower → r ≡ below 64 (first_bare whole cells a part)
+      → (b : Bool) → is_some r ≡ not b
+      → b ≡ quarter_suits rows column row link a rest o right lower
   unfolding quarter_suits
-  quarter_is right lower whole part cells r ew ep ec er =
-      ap (λ n. eqb n 64) (er ∙ ap₂ (λ x y. first_bare x y a part) ew ec
+  quarter_is right lower whole part cells r ew ep ec er b eb =
+      twice b ∙ sym (ap not eb) ∙ no_bare whole cells a part r er
+      ∙ ap (λ n. eqb n 64) (ap₂ (λ x y. first_bare x y a part) ew ec
       ∙ ap (first_bare (quarter rows column row right lower) (link_quarter link o right lower) a) ep)
+    where
+      twice : (b : Bool) → b ≡ not (not b)
+      twice true = refl
+      twice false = refl
 
   module _ (p q s : Bool) (ep : p ≡ quarter_suits rows column row link a rest o false false) where
     pub suits_not : p ≡ false → false ≡ suits rows column row link a rest o
@@ -114,28 +130,47 @@ module _ (rows : List ℕ) (column row first last j link : ℕ) (f : Bool)
       ∙ ap (λ l. origin_by rows column row l (j % 8) (rest_of rows l (j % 8))
       (fits l j (eqb (first + 4096) last))) el
 
-  pub origin_unfit : f ≡ false → 64 ≡ origin_no rows column row first last j
-  unfolding origin_by
-  origin_unfit n = sym (cond_no f _ 64 n) ∙ by
+  pub origin_unfit : f ≡ false → None ≡ below 64 (origin_no rows column row first last j)
+  unfolding origin_by below
+  origin_unfit n = ap (below 64) (sym (cond_no f _ 64 n) ∙ by)
 
-  module _ (rest : List ℕ) (n : ℕ) (t : f ≡ true) (er : rest ≡ rest_of rows link (j % 8))
-      (en : n ≡ first_bare rows link (j % 8) rest) where
-    whole : eqb (first_bare rows link (j % 8) (rest_of rows link (j % 8))) 64 ≡ eqb n 64
+  module _ (rest : List ℕ) (r : Option ℕ) (t : f ≡ true) (er : rest ≡ rest_of rows link (j % 8))
+      (en : r ≡ below 64 (first_bare rows link (j % 8) rest)) where
+    whole : eqb (first_bare rows link (j % 8) (rest_of rows link (j % 8))) 64 ≡ is_none r
     whole = ap (λ (r : List ℕ). eqb (first_bare rows link (j % 8) r) 64) (sym er)
-        ∙ ap (λ m. eqb m 64) (sym en)
+        ∙ sym (no_bare rows link (j % 8) rest r en)
 
-    pub origin_bare : ¬ (n ≡ 64) → 64 ≡ origin_no rows column row first last j
-    unfolding origin_by
+    pub origin_bare : is_none r ≡ false → None ≡ below 64 (origin_no rows column row first last j)
+    unfolding origin_by below
     origin_bare h =
-        sym (cond_yes f _ 64 t
+        ap (below 64) (sym (cond_yes f _ 64 t
         ∙ cond_no (eqb (first_bare rows link (j % 8) (rest_of rows link (j % 8))) 64) _ 64
-        (whole ∙ ne_eqb n 64 h)) ∙ by
+        (whole ∙ h)) ∙ by)
 
-    pub origin_whole : (o : ℕ) → n ≡ 64 → o ≡ origin_for rows column row link (j % 8) rest
-        → o ≡ origin_no rows column row first last j
+    pub origin_whole : (o : Option ℕ) → is_none r ≡ true
+        → o ≡ below 64 (origin_for rows column row link (j % 8) rest)
+        → o ≡ below 64 (origin_no rows column row first last j)
     unfolding origin_by
     origin_whole o h eo =
-        eo ∙ ap (origin_for rows column row link (j % 8)) er
+        eo ∙ ap (below 64) (ap (origin_for rows column row link (j % 8)) er
         ∙ sym (cond_yes f _ 64 t
         ∙ cond_yes (eqb (first_bare rows link (j % 8) (rest_of rows link (j % 8))) 64) _ 64
-        (whole ∙ eq-eqb n 64 h)) ∙ by
+        (whole ∙ h)) ∙ by)
+
+-- it is a cell of the link, or 64
+pub origin_few : (rows : List ℕ) (column row first last j : ℕ) → origin_no rows column row first last j ≤ 64
+unfolding origin_no origin_by origin_for
+origin_few rows column row first last j =
+    by (fits link j (eqb (first + 4096) last)) (eqb (first_bare rows link (j % 8) rest) 64) _
+    (least_few (suits rows column row link (j % 8) rest) 64 0)
+  where
+    link : ℕ
+    link = link_no rows first last j
+
+    rest : List ℕ
+    rest = rest_of rows link (j % 8)
+
+    by : (f g : Bool) (n : ℕ) → n ≤ 64 → cond f (cond g n 64) 64 ≤ 64
+    by true true n h = h
+    by true false n h = omega arith
+    by false g n h = omega arith

@@ -3,6 +3,7 @@
 #![tactic(auto)]
 
 ghost use Rattle.std.specs.Prelude.{◌≡◌, ◌≤◌};
+ghost use Rattle.dividing.specs.Least.{below};
 ghost use Rattle.choosing.specs.Link.{link_no, fits, quarter_suits, suits, origin_for, origin_no};
 
 use element::{MOST_CELLS, RowWord};
@@ -61,7 +62,7 @@ fn quarter_suits(
     let y = (row % 64 + (64 - o / 8 % 8)) % 64;
     let part = covering::quarter(rest, x, y, right, lower);
     let cells = covering::link_quarter(link, o, right, lower);
-    covering::first_bare(&whole, cells, a, &part) == 64
+    covering::first_bare(&whole, cells, a, &part).is_none()
 }
 
 // In all four.
@@ -88,7 +89,7 @@ fn suits(
     quarter_suits(rows, column, row, link, a, rest, o, true, true)
 }
 
-// The first cell of the link that suits as its origin, or 64.
+// The first cell of the link that suits as its origin.
 fn origin_for(
     rows: &[RowWord; MOST_CELLS],
     column: usize,
@@ -96,20 +97,13 @@ fn origin_for(
     link: RowWord,
     a: usize,
     rest: &[RowWord; MOST_CELLS],
-) -> usize
-    ensures { result ≡ origin_for rows.now column row link a rest.now }
+) -> Option<usize>
+    ensures { result ≡ below 64 (origin_for rows.now column row link a rest.now) }
 {
-    let mut o = 0;
-    while o < 64 {
-        if suits(rows, column, row, link, a, rest, o) {
-            return o;
-        }
-        o += 1;
-    }
-    o
+    (0..64).find(|&o| suits(rows, column, row, link, a, rest, o))
 }
 
-// The origin of link j, or 64 where it does not divide the board.
+// The origin of link j; none where it does not divide the board.
 pub fn origin_no(
     rows: &[RowWord; MOST_CELLS],
     column: usize,
@@ -117,17 +111,17 @@ pub fn origin_no(
     first: usize,
     last: usize,
     j: usize,
-) -> usize
+) -> Option<usize>
     requires { first ≤ 4096 }
-    ensures { result ≡ origin_no rows.now column row first last j }
+    ensures { result ≡ below 64 (origin_no rows.now column row first last j) }
 {
     let link = link_no(rows, first, last, j);
     if !fits(link, j, first + dividing::PLACES == last) {
-        return 64;
+        return None;
     }
     let rest = dividing::rest_of(rows, link, j % 8);
-    if covering::first_bare(rows, link, j % 8, &rest) != 64 {
-        return 64;
+    if covering::first_bare(rows, link, j % 8, &rest).is_some() {
+        return None;
     }
     origin_for(rows, column, row, link, j % 8, &rest)
 }

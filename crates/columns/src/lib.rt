@@ -21,11 +21,9 @@ fn down(
     ensures { result ≡ firsts (λ m. down_at packed grows s.now n lo count (i + m)) 64 }
 {
     let mut c = [blocks::beyond(grows); blocks::BLOCK];
-    let mut v = 0;
-    while v < count {
+    for v in 0..count {
         let next = joins::join_block(packed, grows, c, s, (lo + v) * n + i);
         c = next;
-        v += 1;
     }
     c
 }
@@ -52,13 +50,11 @@ fn pair_blocks(
         (length y.old) }
 {
     let n = y.len();
-    let mut done = 0;
-    while done < n {
-        let i = basics::lesser(done, n - 64);
+    for k in 0..(n + 63) / 64 {
+        let i = (64 * k).min(n - 64);
         let c = down(packed, grows, s, n, i, lo, count);
         blocks::put_block(y, i, joins::join_block(packed, grows, c, s, first * n + i));
         blocks::put_block(z, i, joins::join_block(packed, grows, c, s, last * n + i));
-        done = i + 64;
     }
 }
 
@@ -77,11 +73,9 @@ fn down_short(
     ensures { result ≡ firsts (λ m. down_at packed grows s.now n lo count (0 + m)) 64 }
 {
     let mut c = [blocks::beyond(grows); blocks::BLOCK];
-    let mut v = 0;
-    while v < count {
+    for v in 0..count {
         let next = joins::join_block(packed, grows, c, s, (lo + v) * n);
         c = next;
-        v += 1;
     }
     c
 }
@@ -91,11 +85,8 @@ fn copy_first(t: &mut [u8], a: &[u8])
     requires { length t.old ≤ length a.now }
     ensures { t.new ≡ firsts (λ i. get_or a.now i 0) (length t.old) }
 {
-    let mut i = 0;
-    while i < t.len() {
-        t[i] = a[i];
-        i += 1;
-    }
+    let n = t.len();
+    t.copy_from_slice(&a[..n]);
 }
 
 // Two rows: of the block that begins with each, what is its own.
@@ -137,10 +128,8 @@ fn byte_down(packed: bool, grows: bool, s: &[u8], n: usize, i: usize, lo: usize,
     ensures { result ≡ down_at packed grows s.now n lo count i }
 {
     let mut c = blocks::beyond(grows);
-    let mut v = 0;
-    while v < count {
+    for v in 0..count {
         c = joins::join(packed, grows, c, s[(lo + v) * n + i]);
-        v += 1;
     }
     c
 }
@@ -165,12 +154,10 @@ fn pair_bytes(
         (length y.old) }
 {
     let n = y.len();
-    let mut j = 0;
-    while j < n {
+    for j in 0..n {
         let c = byte_down(packed, grows, s, n, j, lo, count);
         y[j] = joins::join(packed, grows, c, s[first * n + j]);
         z[j] = joins::join(packed, grows, c, s[last * n + j]);
-        j += 1;
     }
 }
 
@@ -181,7 +168,7 @@ fn rows_end(first: usize, lo: usize, count: usize, last: usize) -> usize
     requires { (first + 1 < 2 ^ 64) × ((last + 1 < 2 ^ 64) × (lo + count < 2 ^ 64)) }
     ensures { result ≡ max (max first last + 1) (lo + count) }
 {
-    basics::greater(basics::greater(first, last) + 1, lo + count)
+    (first.max(last) + 1).max(lo + count)
 }
 
 // Two rows of less than a block.

@@ -18,7 +18,7 @@ use Rattle.picture.specs.declared.Depth.{Depth}
 use Rattle.picture.specs.declared.Face.TheVariants.{AsIs}
 use Rattle.picture.specs.Frame.{row_bytes, picture_bytes, spare_bits}
 use Rattle.picture.specs.Points.{value_at}
-use Rattle.picture.specs.Bytes.{row_byte, row_of, bytes_of, turned, faced, last_clear, lasts_clear}
+use Rattle.picture.specs.Bytes.{row_byte, row_of, bytes_of, faced, last_clear, lasts_clear}
 use Rattle.picture.specs.Bytes.{padding_clear}
 use Rattle.copies.specs.Steps.Copy.{cleared_byte, cleared_at}
 use Rattle.picture.proofs.Sizes.{row_some}

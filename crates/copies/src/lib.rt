@@ -11,24 +11,15 @@ ghost use Rattle.copies.specs.Steps.Copy.{over_of, cleared_byte, spare_at, clear
 
 use picture::{Depth, Face};
 
-fn is_over(face: Face) -> bool
-    ensures { result ≡ over_of face }
+// A byte as it is or turned over, its u low bits 0.
+fn cleared(face: Face, b: u8, u: usize) -> u8
+    requires { u < 8 }
+    ensures { result ≡ cleared_byte (over_of face) b u }
 {
     match face {
-        Face::AsIs => false,
-        Face::TurnedOver => true,
+        Face::AsIs => (b >> u) << u,
+        Face::TurnedOver => ((!b) >> u) << u,
     }
-}
-
-// A byte as it is or turned over, its u low bits 0.
-fn cleared(over: bool, b: u8, u: usize) -> u8
-    requires { u < 8 }
-    ensures { result ≡ cleared_byte over b u }
-{
-    if over {
-        return ((!b) >> u) << u;
-    }
-    (b >> u) << u
 }
 
 // The spare bits of byte i of a row: only the last byte has any.
@@ -40,29 +31,25 @@ fn spare_at(i: usize, n: usize, u: usize) -> usize
 }
 
 // One row of n bytes, from the place `at` on: the padding goes to 0, turned over or not.
-fn copy_row(over: bool, s: &[u8], at: usize, t: &mut [u8], n: usize, u: usize)
+fn copy_row(face: Face, s: &[u8], at: usize, t: &mut [u8], n: usize, u: usize)
     requires { (u < 8) × ((length t.old ≡ n) × (at + n ≤ length s.now)) }
-    ensures { t.new ≡ firsts (cleared_at over s.now at n u) n }
+    ensures { t.new ≡ firsts (cleared_at (over_of face) s.now at n u) n }
 {
-    let mut i = 0;
-    while i < n {
+    for i in 0..n {
         let v = spare_at(i, n, u);
-        t[i] = cleared(over, s[at + i], v);
-        i += 1;
+        t[i] = cleared(face, s[at + i], v);
     }
 }
 
 // h rows; what lies past them in t stays.
-fn copy_rows(over: bool, s: &[u8], t: &mut [u8], n: usize, u: usize, h: usize)
+fn copy_rows(face: Face, s: &[u8], t: &mut [u8], n: usize, u: usize, h: usize)
     requires { (u < 8) × ((h * n ≤ length t.old) × (h * n ≤ length s.now)) }
-    ensures { t.new ≡ cleared_rows over s.now n u h t.old }
+    ensures { t.new ≡ cleared_rows (over_of face) s.now n u h t.old }
 {
-    let mut y = 0;
-    while y < h {
+    for y in 0..h {
         let a = y * n;
         let z = a + n;
-        copy_row(over, s, a, &mut t[a..z], n, u);
-        y += 1;
+        copy_row(face, s, a, &mut t[a..z], n, u);
     }
 }
 
@@ -75,8 +62,7 @@ pub fn copy_picture(depth: Depth, face: Face, s: &[u8], t: &mut [u8], w: usize, 
 {
     let n = picture::row_bytes(depth, w);
     let u = padding::spare_bits(depth, w);
-    let over = is_over(face);
-    copy_rows(over, s, t, n, u, h);
+    copy_rows(face, s, t, n, u, h);
 }
 
 // The last byte of a row of n, its u low bits to 0; the others stay.
@@ -85,7 +71,7 @@ fn clear_last(t: &mut [u8], n: usize, u: usize)
     ensures { t.new ≡ firsts (cleared_at false t.old 0 n u) n }
 {
     let last = n - 1;
-    t[last] = cleared(false, t[last], u);
+    t[last] = cleared(Face::AsIs, t[last], u);
 }
 
 // h rows; what lies past them stays.
@@ -93,12 +79,10 @@ fn clear_rows(t: &mut [u8], n: usize, u: usize, h: usize)
     requires { (u < 8) × ((1 ≤ n) × (h * n ≤ length t.old)) }
     ensures { t.new ≡ cleared_rows false t.old n u h t.old }
 {
-    let mut y = 0;
-    while y < h {
+    for y in 0..h {
         let a = y * n;
         let z = a + n;
         clear_last(&mut t[a..z], n, u);
-        y += 1;
     }
 }
 

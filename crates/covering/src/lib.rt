@@ -3,6 +3,8 @@
 #![tactic(auto)]
 
 ghost use Rattle.std.specs.Prelude.{◌≡◌};
+ghost use Rattle.element.specs.Descriptor.{most_cells};
+ghost use Rattle.dividing.specs.Least.{below};
 ghost use Rattle.covering.specs.Cover.{added, sum_row, bare, first_bare};
 ghost use Rattle.covering.specs.Quarter.{beside, side_of, quarter_row, quarter, link_columns};
 ghost use Rattle.covering.specs.Quarter.{link_rows, link_quarter};
@@ -27,11 +29,9 @@ fn sum_row(rest: &[RowWord; MOST_CELLS], link: RowWord, a: usize, y: usize) -> R
     ensures { result ≡ sum_row rest.now link a y 64 }
 {
     let mut acc = 0;
-    let mut k = 0;
-    while k < 64 {
+    for k in 0..64 {
         let w = dividing::turned(rest[(y % 64 + (64 - k / 8)) % 64], a % 8 + (64 - k % 8));
         acc = added(acc, link, k, w);
-        k += 1;
     }
     acc
 }
@@ -54,23 +54,16 @@ fn bare(
     (w | sum) != sum
 }
 
-// The first row of which it leaves a cell out, or MOST_CELLS.
+// The first row of which it leaves a cell out.
 pub fn first_bare(
     rows: &[RowWord; MOST_CELLS],
     link: RowWord,
     a: usize,
     rest: &[RowWord; MOST_CELLS],
-) -> usize
-    ensures { result ≡ first_bare rows.now link a rest.now }
+) -> Option<usize>
+    ensures { result ≡ below most_cells (first_bare rows.now link a rest.now) }
 {
-    let mut y = 0;
-    while y < MOST_CELLS {
-        if bare(rows, link, a, rest, y) {
-            return y;
-        }
-        y += 1;
-    }
-    y
+    (0..MOST_CELLS).find(|&y| bare(rows, link, a, rest, y))
 }
 
 // A column, or row, lies on one side of another, or on it.
@@ -113,10 +106,8 @@ pub fn quarter(
     ensures { result ≡ quarter rows.now column row right lower }
 {
     let mut part = [0; MOST_CELLS];
-    let mut y = 0;
-    while y < MOST_CELLS {
+    for y in 0..MOST_CELLS {
         part[y] = quarter_row(rows[y], y, column, row, right, lower);
-        y += 1;
     }
     part
 }

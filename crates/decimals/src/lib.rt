@@ -8,23 +8,20 @@ ghost use Rattle.digits.specs.Decimal.{digit, decimal};
 fn digit_of(n: usize) -> u8
     ensures { result ≡ digit n }
 {
-    48 + (n % 10) as u8
+    b'0' + (n % 10) as u8
 }
 
 // How many digits a number below 10,000 has.
+#[tactic(auto, using(crate::proofs::Lengths::lengths))]
 pub fn decimal_len(n: usize) -> usize
     ensures { (result ≡ length (decimal n)) × (result ≤ 4) }
 {
-    if n < 10 {
-        return 1;
+    match n {
+        0..=9 => 1,
+        10..=99 => 2,
+        100..=999 => 3,
+        _ => 4,
     }
-    if n < 100 {
-        return 2;
-    }
-    if n < 1000 {
-        return 3;
-    }
-    4
 }
 
 // A number in decimal: of its four digits the last ones, as many as it has.

@@ -99,11 +99,11 @@ book_tidy_kept κs a r e p =
     kept_of (book_tests a.0.now a.1.0 Tidy) _ _ _ (call_numbered a.0.now a.1.0 Tidy) p.1
 
 pub book_find_exactly : Every 1 find-kinds.ps find-kinds.r find-reads.Learnt
-    (λ κs a r e. Exactly (book_tests a.0.now a.1.0 (Get a.1.1.0)) (told r.answer))
+    (λ κs a r e. Exactly (book_tests a.0.now a.1.0 (Get a.1.1.0)) (told r))
 unfolding book_answer
 book_find_exactly κs a r e p =
     let c = Get a.1.1.0 in
-    exactly_of (book_tests a.0.now a.1.0 c) (told r.answer)
+    exactly_of (book_tests a.0.now a.1.0 c) (told r)
     (call_numbered a.0.now a.1.0 c) p.answer
 
 -- and a get that is refused hands back nothing

@@ -8,7 +8,7 @@ use native.Mathlib.Omega.{arith}
 use borrow.Author.Tests.{eqb-true, ne_eqb}
 use lib.Dec.{lit≤}
 use Rattle.answer.specs.declared.Told.{Told}
-use Rattle.answer.specs.Answer.{told, plain, is_done}
+use Rattle.answer.specs.Answer.{told, told_refusal, plain, is_done}
 use Rattle.answer.specs.Refuse.{Test, refuse}
 use Rattle.answer.specs.Lent.{if_done, unless_refused}
 use Rattle.answer.proofs.Order.{Numbered, number_of, exactly, done_exactly}
@@ -99,12 +99,12 @@ module _ (ts : List Test) (t : Told) (some : Numbered ts) (b : bare t ≡ refuse
 
 -- ---- the check of a chain
 bare_verdict : (v : Verdict) → bare (told (answer_of v)) ≡ refuse ((not (taken_by v), 7) ∷ []) (plain 0)
-unfolding plain bare told answer_of taken_by
+unfolding plain bare told answer_of taken_by told_refusal
 bare_verdict Taken = refl
 bare_verdict (Split x y) = refl
 
 verdict_plain : (v : Verdict) → NoOffset (told (answer_of v))
-unfolding plain told answer_of
+unfolding plain told answer_of told_refusal
 verdict_plain Taken = λ s. refl
 verdict_plain (Split x y) = λ s. absurd (s refl)
 

@@ -9,9 +9,8 @@ use lib.Dec.{lit≤}
 use Rattle.picture.specs.declared.Depth.{Depth}
 use Rattle.picture.specs.declared.Depth.TheVariants.{OneBit}
 use Rattle.picture.specs.Frame.{top}
-use Rattle.answer.specs.declared.Answer.{Answer}
 use Rattle.answer.specs.declared.Told.{Told}
-use Rattle.answer.specs.Answer.{told, plain}
+use Rattle.answer.specs.Answer.{Answer, told, told_refusal, plain}
 use Rattle.answer.proofs.Order.{refused, none_given, done_exactly}
 use Rattle.element.specs.Shape.{Shape, Offset}
 use Rattle.element.specs.Descriptor.{shape_in}
@@ -57,7 +56,7 @@ module _ (element chain : List ℕ) (k : ℕ) (r : Answer) (promised : told r �
   -- on every picture, at both depths, in every frame within the limits
   pub done_is_same : (told r ≡ plain 0)
       ↔ (WellMade element k chain × ((depth : Depth) → Same (top depth) E Bs))
-  unfolding answer_of told plain
+  unfolding answer_of told plain told_refusal
   done_is_same = (
     λ t. ⊎_elim (λ o. (o.0, (accepts E Bs (chained o.0)).0 (taken (check_of E Bs) (sym o.1 ∙ t))))
         (λ o. absurd (refusal o.0 o.1 (sym o.2 ∙ t))) outcome,
@@ -76,7 +75,7 @@ module _ (element chain : List ℕ) (k : ℕ) (r : Answer) (promised : told r �
   -- at which a lone echo of that strength, in some frame within the limits, is dilated differently
   pub split_is_first : (depth : Depth) (strength : ℕ) → Strength depth strength → (e : Offset)
       → (told r ≡ split_at e) ↔ (WellMade element k chain × First (Differs strength E Bs) e)
-  unfolding answer_of told plain
+  unfolding answer_of told plain told_refusal
   split_is_first depth strength heard e = (
     λ t. ⊎_elim (λ o. (o.0, first (chained o.0) (check_of E Bs) refl (sym o.1 ∙ t)))
         (λ o. absurd (refusal o.0 o.1 (sym o.2 ∙ t))) outcome,
@@ -104,7 +103,7 @@ module _ (element chain : List ℕ) (k : ℕ) (r : Answer) (promised : told r �
   -- and it is SPLIT at some offset exactly when they are well made and do not do the same
   pub split_is_not_same : ((e : Offset) × (told r ≡ split_at e))
       ↔ (WellMade element k chain × (¬ ((depth : Depth) → Same (top depth) E Bs)))
-  unfolding answer_of told plain
+  unfolding answer_of told plain told_refusal
   split_is_not_same = (
     λ s. (
       ((split_is_first OneBit 1 one s.0).0 s.1).0,

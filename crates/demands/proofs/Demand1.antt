@@ -38,6 +38,8 @@ use Rattle.ech.proofs.read_ech.Reads as read-reads
 use Rattle.echwrite.proofs.write_ech.Kinds as write-kinds
 use Rattle.echwrite.proofs.write_ech.Reads as write-reads
 use Rattle.demands.specs.Demands.{Every, Exactly, Kept}
+use Rattle.demands.specs.Files.{kind_given, pings_given, bins_given}
+use Rattle.demands.proofs.Files.{kind_is, pings_is, bins_is}
 use Rattle.demands.proofs.Laws.{refused_not, exactly_of, kept_of}
 use Rattle.demands.specs.Calls.{call, tests_once, twice, room_twice, tests_twice}
 use Rattle.demands.specs.WeightedCalls.{weighted_call, weighted_once, weighted_twice, weighted_both}
@@ -195,10 +197,10 @@ weighted_close_kept_scratch κs a r e p =
 
 -- files
 pub read_exactly : Every 2 read-kinds.ps read-kinds.r read-reads.Learnt
-    (λ κs a r e. let d = read_call κs a e in Exactly (tests_read d) (told r.answer))
+    (λ κs a r e. let d = read_call κs a e in Exactly (tests_read d) (told r))
 unfolding read_answer
 read_exactly κs a r e p = let d = read_call κs a e in
-    exactly_of (tests_read d) (told r.answer) (read_tests_numbered d) p.0.answer
+    exactly_of (tests_read d) (told r) (read_tests_numbered d) p.0.answer
 
 pub read_kept : Every 2 read-kinds.ps read-kinds.r read-reads.Learnt
     (λ κs a r e. let d = read_call κs a e in Kept (tests_read d) d.before d.after)
@@ -209,15 +211,15 @@ read_kept κs a r e p =
 -- a refused read gives 0 for kind, W and H
 pub read_gives_none : Every 2 read-kinds.ps read-kinds.r read-reads.Learnt
     (λ κs a r e. (n : ℕ) → FirstHolds (tests_read (read_call κs a e)) n
-    → (r.kind ≡ 0) × ((r.w ≡ 0) × (r.h ≡ 0)))
+    → (kind_given r ≡ 0) × ((pings_given r ≡ 0) × (bins_given r ≡ 0)))
 unfolding read_answer
 read_gives_none κs a r e p n f =
     let d = read_call κs a e in
     let no = refused_not (tests_read d) n (read_tests_numbered d) f in (
-      p.0.kind ∙ ap (λ b. cond b (reported_kind d.file) 0) no,
+      kind_is d r p.0 ∙ ap (λ b. cond b (reported_kind d.file) 0) no,
       (
-        p.0.pings ∙ ap (λ b. cond b (pings_of d.file) 0) no,
-        p.0.bins ∙ ap (λ b. cond b (bins_of d.file) 0) no,
+        pings_is d r p.0 ∙ ap (λ b. cond b (pings_of d.file) 0) no,
+        bins_is d r p.0 ∙ ap (λ b. cond b (bins_of d.file) 0) no,
       ),
     )
 

@@ -1,6 +1,7 @@
 -- Demand 2 of files: a file written and read gives the same picture;
 -- an accepted file read and written gives the same bytes, or for kind 3 those of kind 1. Of every outcome
 -- that the contracts of `write_ech` and `read_ech` allow. The bytes of a slice are below 256.
+use Rattle.std.specs.Prelude.{Result}
 use Prim.Native.Nat.{ℕ, ◌+◌, ◌-◌, ◌≤◌, ◌<◌}
 use native.Mathlib.Omega.{arith}
 use mathlib.Core.Path.{◌≡◌, refl, sym, ap, ap₂, subst, ◌∙◌}
@@ -8,6 +9,7 @@ use mathlib.Core.Bool.{true, cond}
 use mathlib.Core.List.{List, ◌++◌}
 use lib.ListN.{length, take, drop, length-append, length-drop}
 use lib.Seq.{take_at}
+use Rattle.answer.specs.declared.Refusal.{Refusal}
 use Rattle.answer.specs.Answer.{is_done}
 use Rattle.answer.specs.Lent.{unless_refused}
 use Rattle.basics.specs.Bytes.{Bytes}
@@ -30,6 +32,8 @@ use Rattle.ech.proofs.Writing.{head_long}
 use Rattle.ech.proofs.RoundTrip.{SamePicture, written_then_read, Rewrites, read_then_written}
 use Rattle.ech.proofs.RoundTrip.{rewritten, rewritten_same, accepted}
 use Rattle.demands.specs.FileCalls.{WriteCall, write_call, ReadCall, read_call}
+use Rattle.demands.specs.Files.{kind_given, pings_given, bins_given}
+use Rattle.demands.proofs.Given.{given_is}
 use Rattle.demands.specs.Files.{picture_length, file_length, ReadBack, WrittenThenRead}
 use Rattle.demands.specs.Files.{ReadThenWritten, SameFile, kind_one, AsKindOne}
 
@@ -68,7 +72,26 @@ module _ (kind w h : ℕ) (s u : List ℕ) (bytes : Bytes s) (some : 1 ≤ w) wh
       by OneBit l = written_clear (value_at OneBit s w) w h u some l
       by EightBit l = eight_clear _ w h
 
-back_is : (c : WriteCall) (d : ReadCall) (back : Header) (f : List ℕ) → Bytes c.source → 1 ≤ c.w
+-- what a read promises of what it gives; kind, W and H are the file's where it is done, and else 0
+abbrev Gives : ReadCall → Result Header Refusal → Type 0
+Gives d r =
+    GivenBack (read_answer d.file (length d.before)) (reported_kind d.file) (pings_of d.file) (bins_of d.file)
+    r
+
+pub kind_is : (d : ReadCall) (r : Result Header Refusal) → Gives d r
+    → kind_given r ≡ cond (is_done (read_answer d.file (length d.before))) (reported_kind d.file) 0
+kind_is d r g = given_is (λ (h : Header). h.kind) _ _ r g.answer g.kind
+
+pub pings_is : (d : ReadCall) (r : Result Header Refusal) → Gives d r
+    → pings_given r ≡ cond (is_done (read_answer d.file (length d.before))) (pings_of d.file) 0
+pings_is d r g = given_is (λ (h : Header). h.w) _ _ r g.answer g.pings
+
+pub bins_is : (d : ReadCall) (r : Result Header Refusal) → Gives d r
+    → bins_given r ≡ cond (is_done (read_answer d.file (length d.before))) (bins_of d.file) 0
+bins_is d r g = given_is (λ (h : Header). h.h) _ _ r g.answer g.bins
+
+back_is : (c : WriteCall) (d : ReadCall) (back : Result Header Refusal) (f : List ℕ) → Bytes c.source → 1
+    ≤ c.w
     → f ≡ d.file
     → SamePicture c.kind c.w c.h c.source f d.before
     → GivenBack (read_answer d.file (length d.before))
@@ -78,9 +101,9 @@ back_is c d back f below some q s g t =
     let same = subst (λ (l : List ℕ). SamePicture c.kind c.w c.h c.source l d.before) q s in
     record {
       done = ap is_done g.answer ∙ same.done;
-      kind = g.kind ∙ ap (λ b. cond b (reported_kind d.file) 0) same.done ∙ same.kind_same;
-      pings = g.pings ∙ ap (λ b. cond b (pings_of d.file) 0) same.done ∙ same.pings_same;
-      bins = g.bins ∙ ap (λ b. cond b (bins_of d.file) 0) same.done ∙ same.bins_same;
+      kind = kind_is d back g ∙ ap (λ b. cond b (reported_kind d.file) 0) same.done ∙ same.kind_same;
+      pings = pings_is d back g ∙ ap (λ b. cond b (pings_of d.file) 0) same.done ∙ same.pings_same;
+      bins = bins_is d back g ∙ ap (λ b. cond b (bins_of d.file) 0) same.done ∙ same.bins_same;
       points = λ p hx hy.
           ap (λ l. value_at (depth_of c.kind) l c.w p.ping.0 p.bin.0) (t ∙ same.bytes_same)
           ∙ read_points c.kind c.w c.h c.source d.before below some
@@ -125,11 +148,13 @@ rewrites so made is κs a x e learnt κs' a' x' e' learnt' bytes done kind-so ek
     let f = d.file in
     let was : is_done (read_answer f (length d.before)) ≡ true =
     sym (ap is_done learnt.0.answer) ∙ done in
-    let kind : x.kind ≡ reported_kind f = learnt.0.kind ∙ ap (λ b. cond b (reported_kind f) 0) was in
-    let pings : x.w ≡ pings_of f = learnt.0.pings ∙ ap (λ b. cond b (pings_of f) 0) was in
-    let bins : x.h ≡ bins_of f = learnt.0.bins ∙ ap (λ b. cond b (bins_of f) 0) was in
-    let n : picture_length x.kind x.w x.h ≡ picture_bytes (depth_of (kind_of f)) (pings_of f) (bins_of f) =
-    ap₂ (λ k y. picture_length k y x.h) kind pings
+    let kind : kind_given x ≡ reported_kind f = kind_is d x learnt.0
+    ∙ ap (λ b. cond b (reported_kind f) 0) was in
+    let pings : pings_given x ≡ pings_of f = pings_is d x learnt.0 ∙ ap (λ b. cond b (pings_of f) 0) was in
+    let bins : bins_given x ≡ bins_of f = bins_is d x learnt.0 ∙ ap (λ b. cond b (bins_of f) 0) was in
+    let n : picture_length (kind_given x) (pings_given x) (bins_given x)
+    ≡ picture_bytes (depth_of (kind_of f)) (pings_of f) (bins_of f) =
+    ap₂ (λ k y. picture_length k y (bins_given x)) kind pings
     ∙ ap₂ (λ (k : Depth) (y : ℕ). picture_bytes k (pings_of f) y) (reported_depth (kind_of f)) bins in
     let p = same_call f _ c.before c.kind c.w c.h c.source
     (ek ∙ kind) (ew ∙ pings) (eh ∙ bins) (es ∙ ap₂ take n learnt.1)

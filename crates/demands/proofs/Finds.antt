@@ -7,11 +7,13 @@ use mathlib.Core.Path.{◌≡◌, refl, sym}
 use mathlib.Core.List.{List}
 use native.Mathlib.Omega.{arith}
 use lib.ListN.{length, take}
-use Rattle.answer.specs.declared.Answer.TheVariants.{Done}
-use Rattle.answer.specs.Answer.{told, plain}
+use Rattle.std.specs.Prelude.{Result, Ok, Err, IfOk}
+use Rattle.answer.specs.Answer.{told, told_refusal, plain}
 use Rattle.answer.proofs.Order.{Numbered}
 use Rattle.chain.specs.Reading.{checked}
-use Rattle.chainfor.specs.Find.{find_tests, find_answer, chain_left, FoundAs}
+use Rattle.chainfor.specs.Find.{find_tests, find_answer, told_found, chain_left, FoundAs}
+use Rattle.chainfor.specs.declared.Found.{Found}
+use Rattle.chainfor.specs.declared.Unfound.{Unfound}
 use Rattle.chainfor.proofs.find_chain.Kinds as kinds
 use Rattle.chainfor.proofs.find_chain.Reads as reads
 use Rattle.chainlaw.proofs.Outcomes.{written_accepted, none_exists, rectangle_found}
@@ -26,11 +28,11 @@ find_numbered d room = (omega arith, (omega arith, (omega arith, tt)))
 
 pub find_chain_exactly : Every 2 kinds.ps kinds.r reads.Learnt
     (λ κs a r e. let c = find_call κs a in
-    Exactly (find_tests c.element (length c.chain)) (told r.answer))
+    Exactly (find_tests c.element (length c.chain)) (told_found r))
 unfolding find_answer
 find_chain_exactly κs a r e p =
     let c = find_call κs a in
-    exactly_of (find_tests c.element (length c.chain)) (told r.answer)
+    exactly_of (find_tests c.element (length c.chain)) (told_found r)
     (find_numbered c.element (length c.chain)) p.0.answered
 
 pub find_chain_kept : Every 2 kinds.ps kinds.r reads.Learnt
@@ -42,17 +44,22 @@ find_chain_kept κs a r e p =
     kept_of (find_tests c.element (length c.chain)) _ _ _
     (find_numbered c.element (length c.chain)) p.1
 
+-- what the check accepts does the element's work
+writes_accepted : (d after : List ℕ) (r : Result Found Unfound)
+    → ((f : Found) → r ≡ Ok f → checked d f.links (take f.bytes after) ≡ plain 0) → WritesAccepted d after r
+unfolding told plain told_refusal
+writes_accepted d after (Ok f) w =
+    record {
+      accepted = w f refl;
+      same = ((done_is_same d (take f.bytes after) f.links (Ok (tt {0})) (sym (w f refl))).0 refl).1;
+    }
+writes_accepted d after (Err u) w = record { accepted = tt; same = tt }
+
 pub find_chain_accepted : Every 2 kinds.ps kinds.r reads.Learnt
     (λ κs a r e. WritesAccepted (find_call κs a).element e.1.0.now r)
-unfolding told
 find_chain_accepted κs a r e p =
     let c = find_call κs a in
-    let w = written_accepted c.element c.chain e.1.0.now r p.0 p.1 in
-    record {
-      accepted = w;
-      same = λ t. ((done_is_same c.element (take r.bytes e.1.0.now) r.links Done (sym
-          (w t))).0 refl).1;
-    }
+    writes_accepted c.element e.1.0.now r (written_accepted c.element c.chain e.1.0.now r p.0 p.1)
 
 pub find_chain_none_exists : Every 2 kinds.ps kinds.r reads.Learnt
     (λ κs a r e. NoneExists (find_call κs a).element r)

@@ -25,3 +25,4 @@ pub mod Again
 pub mod Spectrum
 pub mod Nesting
 pub mod Finds
+pub mod Given

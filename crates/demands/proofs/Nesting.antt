@@ -16,7 +16,7 @@ use Rattle.regions.specs.Listing.{order, listing, regions_of}
 use Rattle.regions.specs.Once.{seconds_sum, EachOnce}
 use Rattle.regions.proofs.Firsts.{firsts_exist, firsts_alike}
 use Rattle.regions.proofs.Theorems.{list_length, counts_all, each_once}
-use Rattle.nesting.specs.Nesting.{nest_answer, nest_left}
+use Rattle.nesting.specs.Nesting.{nest_answer, nest_left, regions_in}
 use Rattle.nesting.proofs.Refused.{nest_numbered}
 use Rattle.nesting.proofs.nest.Kinds as nest-kinds
 use Rattle.nesting.proofs.nest.Reads as nest-reads
@@ -31,10 +31,10 @@ numbered : (R : ℕ → ℕ) (c : NestCall) → Numbered (tests_nest R c)
 numbered R c = nest_numbered R c.w c.h (length c.source) (length c.before)
 
 pub nesting_exactly : Every 2 nest-kinds.ps nest-kinds.r nest-reads.Learnt (λ κs a r e.
-    let c = nest_call κs a e in ByRegions c (λ R. Exactly (tests_nest R c) (told r.answer)))
+    let c = nest_call κs a e in ByRegions c (λ R. Exactly (tests_nest R c) (told r)))
 nesting_exactly κs a r e p R f =
     let c = nest_call κs a e in
-    exactly_of (tests_nest R c) (told r.answer) (numbered R c) (p.0 R f).answer
+    exactly_of (tests_nest R c) (told r) (numbered R c) (p.0 R f).answer
 
 pub nesting_kept : Every 2 nest-kinds.ps nest-kinds.r nest-reads.Learnt (λ κs a r e.
     let c = nest_call κs a e in ByRegions c (λ R. Kept (tests_nest R c) c.before c.after))
@@ -44,7 +44,7 @@ nesting_kept κs a r e p R f =
 
 -- a refused call gives 0 for the regions
 pub nesting_none : Every 2 nest-kinds.ps nest-kinds.r nest-reads.Learnt (λ κs a r e.
-    let c = nest_call κs a e in ByRegions c (λ R. (n : ℕ) → FirstHolds (tests_nest R c) n → r.regions ≡ 0))
+    let c = nest_call κs a e in ByRegions c (λ R. (n : ℕ) → FirstHolds (tests_nest R c) n → regions_in r ≡ 0))
 nesting_none κs a r e p R f n first =
     let c = nest_call κs a e in
     (p.0 R f).regions
@@ -60,21 +60,21 @@ rest l was n e =
 
 -- the list is the definition's listing
 pub nesting_lists : Every 2 nest-kinds.ps nest-kinds.r nest-reads.Learnt (λ κs a r e.
-    let c = nest_call κs a e in ByRegions c (λ R. NoneHolds (tests_nest R c) → Nests R c r.regions))
+    let c = nest_call κs a e in ByRegions c (λ R. NoneHolds (tests_nest R c) → Nests R c (regions_in r)))
 nesting_lists κs a r e p R f none =
     let c = nest_call κs a e in
     let l = listing R c.w (c.h * c.w) in
-    let k : r.regions ≡ regions_of R (c.h * c.w) =
+    let k : regions_in r ≡ regions_of R (c.h * c.w) =
     (p.0 R f).regions
     ∙ ap (λ b. cond b (regions_of R (c.h * c.w)) 0) (ap is_done (none_given (plain 0) none) ∙ all_done) in
-    let long : length l ≡ 2 * r.regions =
+    let long : length l ≡ 2 * regions_in r =
     list_length c.w c.h (point_of c.source c.w) R f ∙ ap (λ k. 2 * k) (sym k) in
-    let left : c.after ≡ l ++ drop (2 * r.regions) c.before =
+    let left : c.after ≡ l ++ drop (2 * regions_in r) c.before =
     p.1 R f ∙ lent_made c.before _ none ∙ ap (λ k. l ++ drop (2 * k) c.before) (sym k) in
     record {
       many = k;
-      lines = ap (take (2 * r.regions)) left ∙ front l c.before (2 * r.regions) long;
-      further = ap (drop (2 * r.regions)) left ∙ rest l c.before (2 * r.regions) long;
+      lines = ap (take (2 * regions_in r)) left ∙ front l c.before (2 * regions_in r) long;
+      further = ap (drop (2 * regions_in r)) left ∙ rest l c.before (2 * regions_in r) long;
     }
 
 -- each region comes once in it, after its parent
@@ -87,7 +87,7 @@ nesting_once κs a r e p R f =
 
 -- the counts sum to W x H
 pub nesting_counts : Every 2 nest-kinds.ps nest-kinds.r nest-reads.Learnt (λ κs a r e.
-    let c = nest_call κs a e in ByRegions c (λ R. NoneHolds (tests_nest R c) → CountsAll c r.regions))
+    let c = nest_call κs a e in ByRegions c (λ R. NoneHolds (tests_nest R c) → CountsAll c (regions_in r)))
 nesting_counts κs a r e p R f none =
     let c = nest_call κs a e in
     ap seconds_sum (nesting_lists κs a r e p R f none).lines
@@ -108,7 +108,7 @@ same_points w h s t e p k =
 pub nesting_alone : Every 2 nest-kinds.ps nest-kinds.r nest-reads.Learnt (λ κs a x e.
     Every 2 nest-kinds.ps nest-kinds.r nest-reads.Learnt (λ κs' a' x' e'.
     RepaddedNest (nest_call κs a e) (nest_call κs' a' e')
-    → (told x.answer ≡ told x'.answer) × (x.regions ≡ x'.regions)
+    → (told x ≡ told x') × (regions_in x ≡ regions_in x')
     × ((nest_call κs a e).after ≡ (nest_call κs' a' e').after)))
 nesting_alone κs a x e p κs' a' x' e' p' q =
     let c = nest_call κs a e in

@@ -1,5 +1,6 @@
 -- Request (i): what is demanded of the Netpbm files, of every outcome that
 -- the contracts of the readers and the writers allow. The bytes of a slice are below 256.
+use Rattle.std.specs.Prelude.{Result}
 use Prim.Native.Nat.{ℕ, ◌+◌, ◌≤◌, ◌<◌}
 use mathlib.Core.Path.{◌≡◌, refl, sym, ap, ap₂, subst, ◌∙◌}
 use mathlib.Core.Bool.{true, cond}
@@ -8,8 +9,8 @@ use native.Mathlib.Omega.{arith}
 use lib.ListN.{length, get_or, take, drop}
 use lib.Seq.{take_at, drop_at, get_or-drop}
 use Rattle.basics.specs.Bytes.{Bytes}
-use Rattle.answer.specs.declared.Answer.{Answer}
-use Rattle.answer.specs.Answer.{told, is_done}
+use Rattle.answer.specs.declared.Refusal.{Refusal}
+use Rattle.answer.specs.Answer.{Answer, told, is_done}
 use Rattle.answer.specs.Refuse.{FirstHolds}
 use Rattle.answer.specs.Lent.{unless_refused}
 use Rattle.answer.proofs.Order.{Numbered}
@@ -36,12 +37,14 @@ use Rattle.pnmwrite.proofs.write_pbm.Reads as write-pbm
 use Rattle.pnmwrite.proofs.write_pgm.Reads as write-pgm
 use Rattle.demands.specs.Demands.{Every, Exactly, Kept}
 use Rattle.demands.specs.PnmCalls.{PnmWrite, pnm_write, tests_pnm_write, PnmRead, pnm_read, tests_pnm_read}
+use Rattle.demands.specs.Netpbm.{pings_given, bins_given}
 use Rattle.demands.specs.Netpbm.{pnm_picture, pnm_file, PnmReadBack, PnmWrittenThenRead}
 use Rattle.demands.specs.Netpbm.{OwnForm, PnmWritesBack, PnmWrittenBack, PnmReadThenWritten}
+use Rattle.demands.proofs.Given.{given_is}
 use Rattle.demands.proofs.Laws.{exactly_of, kept_of, refused_not}
 
 -- what the contracts of the two readers, and of the two writers, say: one promise over the depth
-abbrev ReadPromise : Depth → PnmRead → Header → Type 0
+abbrev ReadPromise : Depth → PnmRead → Result Header Refusal → Type 0
 ReadPromise depth d r =
     GivenBack (read_answer depth d.file (length d.before))
     (pings_of depth d.file) (bins_of depth d.file) r
@@ -52,8 +55,17 @@ WritePromise depth c x =
     (told x ≡ write_answer depth c.w c.h c.source c.before)
     × (c.after ≡ write_target depth c.w c.h c.source c.before)
 
+-- W and H of a read that is done are the file's, and of one that is refused 0
+pings_is : (depth : Depth) (d : PnmRead) (r : Result Header Refusal) → ReadPromise depth d r
+    → pings_given r ≡ cond (is_done (read_answer depth d.file (length d.before))) (pings_of depth d.file) 0
+pings_is depth d r p = given_is (λ (h : Header). h.w) _ _ r p.0.answer p.0.pings
+
+bins_is : (depth : Depth) (d : PnmRead) (r : Result Header Refusal) → ReadPromise depth d r
+    → bins_given r ≡ cond (is_done (read_answer depth d.file (length d.before))) (bins_of depth d.file) 0
+bins_is depth d r p = given_is (λ (h : Header). h.h) _ _ r p.0.answer p.0.bins
+
 -- ---- demand 1
-module _ (depth : Depth) (d : PnmRead) (r : Header) (p : ReadPromise depth d r) where
+module _ (depth : Depth) (d : PnmRead) (r : Result Header Refusal) (p : ReadPromise depth d r) where
   read_numbered : Numbered (tests_pnm_read depth d)
   read_numbered = (
     omega arith,
@@ -61,20 +73,20 @@ module _ (depth : Depth) (d : PnmRead) (r : Header) (p : ReadPromise depth d r) 
         (length d.before),
   )
 
-  read_exactly : Exactly (tests_pnm_read depth d) (told r.answer)
+  read_exactly : Exactly (tests_pnm_read depth d) (told r)
   unfolding read_answer
-  read_exactly = exactly_of (tests_pnm_read depth d) (told r.answer) read_numbered p.0.answer
+  read_exactly = exactly_of (tests_pnm_read depth d) (told r) read_numbered p.0.answer
 
   read_kept : Kept (tests_pnm_read depth d) d.before d.after
   unfolding read_answer read_target
   read_kept = kept_of (tests_pnm_read depth d) _ _ _ read_numbered p.1
 
-  read_gives_none : (n : ℕ) → FirstHolds (tests_pnm_read depth d) n → (r.w ≡ 0) × (r.h ≡ 0)
+  read_gives_none : (n : ℕ) → FirstHolds (tests_pnm_read depth d) n → (pings_given r ≡ 0) × (bins_given r ≡ 0)
   unfolding read_answer
   read_gives_none n f =
       let no = refused_not (tests_pnm_read depth d) n read_numbered f in (
-        p.0.pings ∙ ap (λ b. cond b (pings_of depth d.file) 0) no,
-        p.0.bins ∙ ap (λ b. cond b (bins_of depth d.file) 0) no,
+        pings_is depth d r p ∙ ap (λ b. cond b (pings_of depth d.file) 0) no,
+        bins_is depth d r p ∙ ap (λ b. cond b (bins_of depth d.file) 0) no,
       )
 
 module _ (depth : Depth) (c : PnmWrite) (x : Answer) (p : WritePromise depth c x) where
@@ -107,7 +119,7 @@ module _ (depth : Depth) (c : PnmWrite) (x : Answer) (p : WritePromise depth c x
       ∙ take_at f (drop (length f) c.before) (pnm_file depth c)
       (file_long depth c.w c.h c.source)
 
-  read_back : (d : PnmRead) (back : Header) → ReadPromise depth d back
+  read_back : (d : PnmRead) (back : Result Header Refusal) → ReadPromise depth d back
       → d.file ≡ take (pnm_file depth c) c.after
       → pnm_picture depth c ≤ length d.before → PnmReadBack depth c d back
   read_back d back q own room =
@@ -118,8 +130,9 @@ module _ (depth : Depth) (c : PnmWrite) (x : Answer) (p : WritePromise depth c x
       q.1 ∙ same.bytes_same in
       record {
         done = ap is_done q.0.answer ∙ same.done;
-        pings = q.0.pings ∙ ap (λ b. cond b (pings_of depth d.file) 0) same.done ∙ same.pings_same;
-        bins = q.0.bins ∙ ap (λ b. cond b (bins_of depth d.file) 0) same.done ∙ same.bins_same;
+        pings = pings_is depth d back q ∙ ap (λ b. cond b (pings_of depth d.file) 0) same.done
+            ∙ same.pings_same;
+        bins = bins_is depth d back q ∙ ap (λ b. cond b (bins_of depth d.file) 0) same.done ∙ same.bins_same;
         points = λ k hx hy.
             ap (λ l. value_at depth l c.w k.ping.0 k.bin.0) left
             ∙ written_value depth (value_at depth c.source c.w) c.w c.h d.before
@@ -128,17 +141,17 @@ module _ (depth : Depth) (c : PnmWrite) (x : Answer) (p : WritePromise depth c x
       }
 
 -- ---- read, then written
-module _ (depth : Depth) (d : PnmRead) (back : Header) (p : ReadPromise depth d back)
-    (bytes : Bytes d.file) (done : is_done (told back.answer) ≡ true)
+module _ (depth : Depth) (d : PnmRead) (back : Result Header Refusal) (p : ReadPromise depth d back)
+    (bytes : Bytes d.file) (done : is_done (told back) ≡ true)
     (own : OwnForm depth d.file) where
   read : is_done (read_answer depth d.file (length d.before)) ≡ true
   read = sym (ap is_done p.0.answer) ∙ done
 
-  own_pings : back.w ≡ pings_of depth d.file
-  own_pings = p.0.pings ∙ ap (λ b. cond b (pings_of depth d.file) 0) read
+  own_pings : pings_given back ≡ pings_of depth d.file
+  own_pings = pings_is depth d back p ∙ ap (λ b. cond b (pings_of depth d.file) 0) read
 
-  own_bins : back.h ≡ bins_of depth d.file
-  own_bins = p.0.bins ∙ ap (λ b. cond b (bins_of depth d.file) 0) read
+  own_bins : bins_given back ≡ bins_of depth d.file
+  own_bins = bins_is depth d back p ∙ ap (λ b. cond b (bins_of depth d.file) 0) read
 
   -- the raster is the end of the file, and so is of bytes too
   raster_bytes : Bytes (raster_of depth d.file)
@@ -177,7 +190,7 @@ module _ (depth : Depth) (d : PnmRead) (back : Header) (p : ReadPromise depth d 
 -- ---- the theorems, of the four contracts
 -- PBM
 pub read_pbm_exactly : Every 2 read-kinds.ps read-kinds.r read-pbm.Learnt
-    (λ κs a r e. Exactly (tests_pnm_read OneBit (pnm_read κs a e)) (told r.answer))
+    (λ κs a r e. Exactly (tests_pnm_read OneBit (pnm_read κs a e)) (told r))
 read_pbm_exactly κs a r e p = read_exactly OneBit (pnm_read κs a e) r p
 
 pub read_pbm_kept : Every 2 read-kinds.ps read-kinds.r read-pbm.Learnt
@@ -186,7 +199,8 @@ read_pbm_kept κs a r e p = read_kept OneBit (pnm_read κs a e) r p
 
 -- a refused read gives 0 for W and H
 pub read_pbm_gives_none : Every 2 read-kinds.ps read-kinds.r read-pbm.Learnt
-    (λ κs a r e. (n : ℕ) → FirstHolds (tests_pnm_read OneBit (pnm_read κs a e)) n → (r.w ≡ 0) × (r.h ≡ 0))
+    (λ κs a r e. (n : ℕ) → FirstHolds (tests_pnm_read OneBit (pnm_read κs a e)) n → (pings_given r ≡ 0)
+    × (bins_given r ≡ 0))
 read_pbm_gives_none κs a r e p = read_gives_none OneBit (pnm_read κs a e) r p
 
 pub write_pbm_exactly : Every 2 write-kinds.ps write-kinds.r write-pbm.Learnt
@@ -207,7 +221,7 @@ pbm_read_and_written κs a x e p κs' a' x' e' q bytes done own writes =
 
 -- PGM
 pub read_pgm_exactly : Every 2 read-kinds.ps read-kinds.r read-pgm.Learnt
-    (λ κs a r e. Exactly (tests_pnm_read EightBit (pnm_read κs a e)) (told r.answer))
+    (λ κs a r e. Exactly (tests_pnm_read EightBit (pnm_read κs a e)) (told r))
 read_pgm_exactly κs a r e p = read_exactly EightBit (pnm_read κs a e) r p
 
 pub read_pgm_kept : Every 2 read-kinds.ps read-kinds.r read-pgm.Learnt
@@ -216,7 +230,8 @@ read_pgm_kept κs a r e p = read_kept EightBit (pnm_read κs a e) r p
 
 -- a refused read gives 0 for W and H
 pub read_pgm_gives_none : Every 2 read-kinds.ps read-kinds.r read-pgm.Learnt
-    (λ κs a r e. (n : ℕ) → FirstHolds (tests_pnm_read EightBit (pnm_read κs a e)) n → (r.w ≡ 0) × (r.h ≡ 0))
+    (λ κs a r e. (n : ℕ) → FirstHolds (tests_pnm_read EightBit (pnm_read κs a e)) n → (pings_given r ≡ 0)
+    × (bins_given r ≡ 0))
 read_pgm_gives_none κs a r e p = read_gives_none EightBit (pnm_read κs a e) r p
 
 pub write_pgm_exactly : Every 2 write-kinds.ps write-kinds.r write-pgm.Learnt

@@ -8,9 +8,8 @@ use mathlib.Core.List.{List}
 use native.Mathlib.Nat.{le_refl}
 use native.Mathlib.Omega.{arith}
 use lib.Dec.{lit≤}
-use Rattle.answer.specs.declared.Answer.{Answer}
 use Rattle.answer.specs.declared.Told.{Told}
-use Rattle.answer.specs.Answer.{told, plain}
+use Rattle.answer.specs.Answer.{Answer, told, told_refusal, plain}
 use Rattle.answer.specs.Packed.{packed}
 use Rattle.answer.specs.Apart.{apart, OfBytes}
 use Rattle.answer.proofs.Apart.{taken_apart}
@@ -82,7 +81,7 @@ check_bytes E Bs C =
 -- ---- the check
 check_is_of_bytes : (element chain : List ℕ) (k : ℕ) (r : Answer) → told r ≡ checked element k chain
     → OfBytes r
-unfolding told plain
+unfolding told plain told_refusal
 check_is_of_bytes element chain k r p =
     ⊎_elim (λ o. subst OfBytes (sym (told_one_to_one r _ o.1))
     (check_bytes (shape_in element) (links_in k chain) (chained element chain k r p o.0)))
@@ -103,7 +102,7 @@ run_is_of_bytes : (c : RunCall) (r : Answer)
     → told r
     ≡ run_answer c.depth c.w c.h c.source c.element c.links c.chain (room_run c)
     → OfBytes r
-unfolding told checked
+unfolding told checked told_refusal
 run_is_of_bytes c r p x y e =
     let heard : Strength c.depth (top c.depth) =
     record { some = some_top c.depth; most = le_refl (top c.depth) } in

@@ -9,10 +9,9 @@ use native.Mathlib.Omega.{arith}
 use borrow.Author.Tests.{eqb-true, eqb-false, not-false}
 use lib.Dec.{eqb, ltb, lit≤}
 use lib.ListN.{length, take, drop, length-append}
-use Rattle.answer.specs.declared.Answer.{Answer}
-use Rattle.answer.specs.declared.Answer.TheVariants.{Done}
+use Rattle.std.specs.Prelude.{Ok}
 use Rattle.answer.specs.declared.Told.{Told}
-use Rattle.answer.specs.Answer.{told, plain, is_done}
+use Rattle.answer.specs.Answer.{Answer, told, told_refusal, plain, is_done}
 use Rattle.answer.specs.Refuse.{Test, refuse, NoneHolds, end, next}
 use Rattle.answer.specs.Lent.{if_done, unless_refused}
 use Rattle.answer.proofs.Order.{Numbered, none_given}
@@ -250,8 +249,8 @@ module _ (depth : Depth) (w h : ℕ) (result : ℕ → Picture)
 -- a chain that is accepted does the element's work on any picture
 module _ (depth : Depth) (w h : ℕ) (source element : List ℕ) (k : ℕ)
     (chain : List ℕ) (done : is_done (checked element k chain) ≡ true) where
-  told_done : told Done ≡ checked element k chain
-  unfolding told
+  told_done : told (Ok (tt {0})) ≡ checked element k chain
+  unfolding told told_refusal
   told_done = sym (check_done element k chain done)
 
   works : (grows : Bool) (p : Place) → In (frame w h) p
@@ -259,8 +258,9 @@ module _ (depth : Depth) (w h : ℕ) (source element : List ℕ) (k : ℕ)
       ≡ swept_by grows flat (top depth) (frame w h) (shape_in element) (value_at depth source w) p.x p.y
   unfolding eroded dilated
   works grows p i =
-      let s = (done_is_same element chain k Done told_done).0 (told_done ∙ check_done element k chain done) in
-      let C = chained element chain k Done told_done s.0 in
+      let s = (done_is_same element chain k (Ok (tt {0})) told_done).0
+      (told_done ∙ check_done element k chain done) in
+      let C = chained element chain k (Ok (tt {0})) told_done s.0 in
       let none = (accepted_is_same (shape_in element)
       (links_in k chain) C (top depth) (some_top depth)).1 (s.1 depth) in
       by C none grows

@@ -35,7 +35,7 @@ pub data Step : List ℕ → Asked → Reply → List ℕ → Type 0 where
       → (κs' : Lfts 1) (a' : Dens κs' get.ps) (part : (res_t get.r κs').Denot)
       (e' : AtExit (ended_of 1 get.ps get.r) κs') → get-reads.Learnt κs' a' part e'
       → a'.0.now ≡ a.0.now → a'.1.0 ≡ a.1.0 → a'.1.1.0 ≡ a.1.1.0
-      → Step a.0.now (a.1.0, Get a.1.1.0) (told x.answer, part.now) a.0.now
+      → Step a.0.now (a.1.0, Get a.1.1.0) (told x, part.now) a.0.now
 
 -- the bytes at first, the calls, the replies, and the bytes that are left
 pub data History : List ℕ → List Asked → List Reply → List ℕ → Type 0 where

@@ -1,10 +1,10 @@
 -- Demand 2 of files: a file written and read gives the same picture;
 -- an accepted file of kind 1 or 2 read and written gives the same bytes, and one of kind 3, which is retired,
 -- the file of kind 1 of the same picture. The bytes of a slice are below 256.
-use Rattle.std.specs.Prelude.{ℕ, ◌+◌, ◌≤◌, ◌<◌, ◌≡◌, true, List, ◌++◌, length, take, drop}
+use Rattle.std.specs.Prelude.{ℕ, ◌+◌, ◌≤◌, ◌<◌, ◌≡◌, true, List, ◌++◌, length, take, drop, Result}
 use Rattle.basics.specs.Bytes.{Bytes}
-use Rattle.answer.specs.declared.Answer.{Answer}
-use Rattle.answer.specs.Answer.{told, is_done}
+use Rattle.answer.specs.declared.Refusal.{Refusal}
+use Rattle.answer.specs.Answer.{Answer, told, is_done}
 use Rattle.picture.specs.declared.Depth.TheVariants.{OneBit}
 use Rattle.picture.specs.declared.Point.{Point}
 use Rattle.picture.specs.Frame.{picture_bytes}
@@ -18,6 +18,7 @@ use Rattle.echwrite.proofs.write_ech.Reads as write
 use Rattle.ech.proofs.read_ech.Kinds as read-kinds
 use Rattle.ech.proofs.read_ech.Reads as read
 use Rattle.demands.specs.Demands.{Every}
+use Rattle.demands.specs.Given.{given}
 use Rattle.demands.specs.FileCalls.{WriteCall, write_call, ReadCall, read_call}
 
 -- the bytes of the picture, and of its file
@@ -31,14 +32,24 @@ file_length kind w h = head_bytes + picture_length kind w h
 abbrev pub point_of : ℕ → ℕ → List ℕ → Point → ℕ
 point_of kind w bytes p = value_at (depth_of kind) bytes w p.ping.0 p.bin.0
 
+-- the kind, W and H of what a read gives, and 0 where it is refused
+abbrev pub kind_given : Result Header Refusal → ℕ
+kind_given = given (λ (h : Header). h.kind)
+
+abbrev pub pings_given : Result Header Refusal → ℕ
+pings_given = given (λ (h : Header). h.w)
+
+abbrev pub bins_given : Result Header Refusal → ℕ
+bins_given = given (λ (h : Header). h.h)
+
 -- ---- written, then read
 -- what is read of the file that c wrote: done, the same kind and size, the same value at each point,
 -- the padding 0; as one equation of the bytes, whose further ones stay
-pub record ReadBack (c : WriteCall) (d : ReadCall) (back : Header) : Type 0 where
-  pub done : is_done (told back.answer) ≡ true
-  pub kind : back.kind ≡ c.kind
-  pub pings : back.w ≡ c.w
-  pub bins : back.h ≡ c.h
+pub record ReadBack (c : WriteCall) (d : ReadCall) (back : Result Header Refusal) : Type 0 where
+  pub done : is_done (told back) ≡ true
+  pub kind : kind_given back ≡ c.kind
+  pub pings : pings_given back ≡ c.w
+  pub bins : bins_given back ≡ c.h
   pub points : (p : Point) → p.ping.0 < c.w → p.bin.0 < c.h
       → point_of c.kind c.w d.after p ≡ point_of c.kind c.w c.source p
   pub padding : padding_clear (depth_of c.kind) d.after c.w c.h ≡ true
@@ -70,9 +81,11 @@ abbrev pub ReadThenWritten : (ℕ → Type 0) → (List ℕ → List ℕ) → Ty
 ReadThenWritten so made =
     Every 2 read-kinds.ps read-kinds.r read.Learnt (λ κs a x e.
     Every 2 write-kinds.ps write-kinds.r write.Learnt (λ κs' a' x' e'.
-    Bytes (read_call κs a e).file → is_done (told x.answer) ≡ true → so (kind_of (read_call κs a e).file)
-    → (write_call κs' a' e').kind ≡ x.kind → (write_call κs' a' e').w ≡ x.w → (write_call κs' a' e').h ≡ x.h
-    → (write_call κs' a' e').source ≡ take (picture_length x.kind x.w x.h) (read_call κs a e).after
+    Bytes (read_call κs a e).file → is_done (told x) ≡ true → so (kind_of (read_call κs a e).file)
+    → (write_call κs' a' e').kind ≡ kind_given x → (write_call κs' a' e').w ≡ pings_given x
+    → (write_call κs' a' e').h ≡ bins_given x
+    → (write_call κs' a' e').source
+    ≡ take (picture_length (kind_given x) (pings_given x) (bins_given x)) (read_call κs a e).after
     → length (read_call κs a e).file ≤ length (write_call κs' a' e').before
     → WrittenBack (made (read_call κs a e).file) (write_call κs' a' e') x'))
 

@@ -23,3 +23,4 @@ pub mod SizeCalls
 pub mod NestCalls
 pub mod Nests
 pub mod Finds
+pub mod Given

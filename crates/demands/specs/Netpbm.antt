@@ -1,11 +1,11 @@
 -- What is demanded of PBM and PGM files, in the words of request (i), over the depth:
 -- reading back what we wrote gives the same picture; writing what was read gives
 -- the same bytes for files in our own header form with row padding 0. The bytes of a slice are below 256.
-use Rattle.std.specs.Prelude.{ℕ, ◌+◌, ◌≤◌, ◌<◌, ◌≡◌, true, List, ◌++◌, length, take, drop}
+use Rattle.std.specs.Prelude.{ℕ, ◌+◌, ◌≤◌, ◌<◌, ◌≡◌, true, List, ◌++◌, length, take, drop, Result}
 use borrow.Fn.Kinds.{Out}
 use Rattle.basics.specs.Bytes.{Bytes}
-use Rattle.answer.specs.declared.Answer.{Answer}
-use Rattle.answer.specs.Answer.{told, is_done}
+use Rattle.answer.specs.declared.Refusal.{Refusal}
+use Rattle.answer.specs.Answer.{Answer, told, is_done}
 use Rattle.picture.specs.declared.Depth.{Depth}
 use Rattle.picture.specs.declared.Point.{Point}
 use Rattle.picture.specs.Frame.{picture_bytes}
@@ -16,6 +16,7 @@ use Rattle.netpbm.specs.File.{pings_of, bins_of, raster_of, head_of}
 use Rattle.pnmwrite.proofs.write_pbm.Kinds as write
 use Rattle.netpbm.proofs.read_pbm.Kinds as read
 use Rattle.demands.specs.Demands.{Every}
+use Rattle.demands.specs.Given.{given}
 use Rattle.demands.specs.PnmCalls.{PnmWrite, pnm_write, PnmRead, pnm_read}
 
 -- the bytes of the picture, and of its file
@@ -25,13 +26,21 @@ pnm_picture depth c = picture_bytes depth c.w c.h
 abbrev pub pnm_file : Depth → PnmWrite → ℕ
 pnm_file depth c = length (head_of depth c.w c.h) + pnm_picture depth c
 
+-- W and H of what a read gives, and 0 where it is refused
+abbrev pub pings_given : Result Header Refusal → ℕ
+pings_given = given (λ (h : Header). h.w)
+
+abbrev pub bins_given : Result Header Refusal → ℕ
+bins_given = given (λ (h : Header). h.h)
+
 -- ---- written, then read
 -- what is read of the file that c wrote: done, the same size, and the same picture,
 -- point by point; its padding is 0 and the further bytes of the target stay
-pub record PnmReadBack (depth : Depth) (c : PnmWrite) (d : PnmRead) (back : Header) : Type 0 where
-  pub done : is_done (told back.answer) ≡ true
-  pub pings : back.w ≡ c.w
-  pub bins : back.h ≡ c.h
+pub record PnmReadBack (depth : Depth) (c : PnmWrite) (d : PnmRead) (back : Result Header Refusal) : Type
+    0 where
+  pub done : is_done (told back) ≡ true
+  pub pings : pings_given back ≡ c.w
+  pub bins : bins_given back ≡ c.h
   pub points : (p : Point) → p.ping.0 < c.w → p.bin.0 < c.h
       → value_at depth d.after c.w p.ping.0 p.bin.0
       ≡ value_at depth c.source c.w p.ping.0 p.bin.0
@@ -54,10 +63,11 @@ pub record OwnForm (depth : Depth) (f : List ℕ) : Type 0 where
   pub padding : padding_clear depth (raster_of depth f) (pings_of depth f) (bins_of depth f) ≡ true
 
 -- a write of the picture's own bytes with what the reader gave for W and H, with room for the file
-pub record PnmWritesBack (depth : Depth) (d : PnmRead) (back : Header) (c : PnmWrite) : Type 0 where
-  pub pings : c.w ≡ back.w
-  pub bins : c.h ≡ back.h
-  pub bytes : c.source ≡ take (picture_bytes depth back.w back.h) d.after
+pub record PnmWritesBack (depth : Depth) (d : PnmRead) (back : Result Header Refusal) (c : PnmWrite) : Type
+    0 where
+  pub pings : c.w ≡ pings_given back
+  pub bins : c.h ≡ bins_given back
+  pub bytes : c.source ≡ take (picture_bytes depth (pings_given back) (bins_given back)) d.after
   pub room : length d.file ≤ length c.before
 
 -- is done, and gives the bytes of the file that was read; the further bytes of the target stay
@@ -69,6 +79,6 @@ abbrev pub PnmReadThenWritten : Depth → Out 2 read.ps read.r → Out 2 write.p
 PnmReadThenWritten depth Read Write =
     Every 2 read.ps read.r Read (λ κs a x e.
     Every 2 write.ps write.r Write (λ κs' a' x' e'.
-    Bytes (pnm_read κs a e).file → is_done (told x.answer) ≡ true → OwnForm depth (pnm_read κs a e).file
+    Bytes (pnm_read κs a e).file → is_done (told x) ≡ true → OwnForm depth (pnm_read κs a e).file
     → PnmWritesBack depth (pnm_read κs a e) x (pnm_write κs' a' e')
     → PnmWrittenBack (pnm_read κs a e) (pnm_write κs' a' e') x'))

@@ -1,12 +1,13 @@
 -- What is written in the target, one picture less another, is the difference's definition:
 -- of the element that was read, and of the descriptor's own.
 use Prim.Native.Nat.{ℕ, ◌-◌, ◌<◌}
-use mathlib.Core.Path.{◌≡◌, sym, ap, ap₂, ◌∙◌, subst}
+use mathlib.Core.Path.{◌≡◌, sym, ap, ap₂, ◌∙◌}
 use mathlib.Core.Bool.{Bool, true, false, not}
 use mathlib.Core.List.{List, ◌++◌}
 use lib.ListN.{drop}
 use lib.Seq.{drop_at}
 use Rattle.answer.specs.declared.Told.{Told}
+use Rattle.answer.proofs.Lent.{made_by_lem}
 use Rattle.basics.specs.Bytes.{Bytes}
 use Rattle.picture.specs.declared.Depth.{Depth}
 use Rattle.picture.specs.Frame.{frame, top, picture_bytes}
@@ -16,7 +17,6 @@ use Rattle.picture.proofs.Bytes.{bytes_long}
 use Rattle.picture.proofs.Points.{written_same}
 use Rattle.picture.proofs.Shown.{written_shown}
 use Rattle.element.specs.declared.Element.{Element}
-use Rattle.element.specs.declared.Outline.{Outline}
 use Rattle.element.specs.Shape.{Shape}
 use Rattle.element.specs.Descriptor.{cells_made, shape_in}
 use Rattle.element.specs.Record.{element_of, shape_of}
@@ -25,7 +25,8 @@ use Rattle.morphology.specs.TopHats.{less}
 use Rattle.rows.specs.Steps.Ways.{swept_by}
 use Rattle.apply.proofs.Twice.{once_one, twice_one, swept_alike}
 use Rattle.apply.proofs.Read.{flat_read}
-use Rattle.flat.specs.Flat.{flat_answer, flat_left}
+use Rattle.flat.specs.Flat.{flat_left}
+use Rattle.flat.proofs.Known.{Known}
 use Rattle.differences.specs.declared.Which.{Which}
 use Rattle.differences.specs.declared.Which.TheVariants.{White, Black, Gradient}
 use Rattle.differences.specs.Steps.Which.{made_by, middle_by}
@@ -86,10 +87,6 @@ module _ (which found : Which) (q : which ≡ found) (depth : Depth) (w h : ℕ)
       → u ≡ written depth (made_by which depth (frame w h) B A) w h t
   made_found e = e ∙ ap (λ (k : Which). written depth (made_by k depth (frame w h) B A) w h t) (sym q)
 
-  pub middle_found : u ≡ written depth (middle_by found depth (frame w h) B A) w h t
-      → u ≡ written depth (middle_by which depth (frame w h) B A) w h t
-  middle_found e = e ∙ ap (λ (k : Which). written depth (middle_by k depth (frame w h) B A) w h t) (sym q)
-
 -- ---- the element that was read does what the definitions say of the descriptor's
 module _ (d : List ℕ) (m : cells_made d ≡ true) (b : Bytes d) (depth : Depth) (w h : ℕ) (A : Picture) where
   again : (grows : Bool) (x y : ℕ)
@@ -118,29 +115,26 @@ module _ (d : List ℕ) (m : cells_made d ≡ true) (b : Bytes d) (depth : Depth
   middle_same Black x y = flat_read d m b (top depth) (frame w h) A x y true
   middle_same Gradient x y = flat_read d m b (top depth) (frame w h) A x y false
 
-  module _ (which : Which) (e : Element) (q : e ≡ element_of d) (t u : List ℕ) where
-    pub made_written : u ≡ written depth (made_by which depth (frame w h) (shape_of e) A) w h t
-        → u ≡ written depth (made_by which depth (frame w h) (shape_in d) A) w h t
-    made_written eu =
-        eu ∙ ap (λ (e : Element). written depth (made_by which depth (frame w h) (shape_of e) A) w h t) q
-        ∙ written_same depth _ _ w h t (λ x y lx ly. made_same which x y)
+-- what is left where nothing is refused
+module _ {depth : Depth} {w h : ℕ} {s d : List ℕ} {room : ℕ} {answer : Told}
+    (k : Known depth w h s d room answer) (e : Element) (q : e ≡ element_of d) (b : Bytes d)
+    (which : Which) (t u : List ℕ) where
+  pub made_left : u
+      ≡ written depth (made_by which depth (frame w h) (shape_of e) (value_at depth s w)) w h t
+      → u ≡ flat_left depth (made_by which depth) w h s d room t
+  made_left eu =
+      made_by_lem t _ _ _ k.given _ k.done
+      (eu ∙ ap (λ (e : Element). written depth
+      (made_by which depth (frame w h) (shape_of e) (value_at depth s w)) w h t) q
+      ∙ written_same depth _ _ w h t
+      (λ x y lx ly. made_same d k.cells b depth w h (value_at depth s w) which x y))
 
-    pub middle_written : u ≡ written depth (middle_by which depth (frame w h) (shape_of e) A) w h t
-        → u ≡ written depth (middle_by which depth (frame w h) (shape_in d) A) w h t
-    middle_written eu =
-        eu ∙ ap (λ (e : Element). written depth (middle_by which depth (frame w h) (shape_of e) A) w h t) q
-        ∙ written_same depth _ _ w h t (λ x y lx ly. middle_same which x y)
-
--- ---- a call goes by its depth as it was found
-pub made_at : (depth found : Depth) → depth ≡ found → (w h : ℕ) (s d : List ℕ) (room : ℕ) (answer : Told)
-    (which : Which) (t u m v : List ℕ)
-    → (answer ≡ flat_answer found w h s d room)
-    × ((u ≡ flat_left found (made_by which found) w h s d room t)
-    × (v ≡ flat_left found (middle_by which found) w h s d room m))
-    → (answer ≡ flat_answer depth w h s d room)
-    × ((u ≡ flat_left depth (made_by which depth) w h s d room t)
-    × (v ≡ flat_left depth (middle_by which depth) w h s d room m))
-made_at depth found e w h s d room answer which t u m v p =
-    subst (λ z. (answer ≡ flat_answer z w h s d room)
-    × ((u ≡ flat_left z (made_by which z) w h s d room t)
-    × (v ≡ flat_left z (middle_by which z) w h s d room m))) (sym e) p
+  pub middle_left : u
+      ≡ written depth (middle_by which depth (frame w h) (shape_of e) (value_at depth s w)) w h t
+      → u ≡ flat_left depth (middle_by which depth) w h s d room t
+  middle_left eu =
+      made_by_lem t _ _ _ k.given _ k.done
+      (eu ∙ ap (λ (e : Element). written depth
+      (middle_by which depth (frame w h) (shape_of e) (value_at depth s w)) w h t) q
+      ∙ written_same depth _ _ w h t
+      (λ x y lx ly. middle_same d k.cells b depth w h (value_at depth s w) which x y))

@@ -3,7 +3,7 @@
 // A link is one word, row by row, its first cell the highest bit.
 #![tactic(auto)]
 
-ghost use Rattle.std.specs.Prelude.{◌≡◌, ◌≤◌};
+ghost use Rattle.std.specs.Prelude.{◌≡◌, ◌≤◌, ◌<◌};
 ghost use Rattle.dividing.specs.Board.{turned, is_set, cell_of, first_cell, last_cell, window};
 ghost use Rattle.dividing.specs.Divide.{met, rest_row, rest_of};
 
@@ -33,32 +33,23 @@ fn cell_of(rows: &[RowWord; MOST_CELLS], k: usize) -> bool
     is_set(rows[k / 64 % 64], k)
 }
 
-// The first set cell of a board, or PLACES.
+// The first set cell of a board, or PLACES: its callers go on with the number whichever it is.
 pub fn first_cell(rows: &[RowWord; MOST_CELLS]) -> usize
     ensures { (result ≡ first_cell rows.now) × (result ≤ 4096) }
 {
-    let mut k = 0;
-    while k < PLACES {
-        if cell_of(rows, k) {
-            return k;
-        }
-        k += 1;
-    }
-    k
+    (0..PLACES).find(|&k| cell_of(rows, k)).unwrap_or(PLACES)
 }
 
 // The last set cell, with PLACES added.
 pub fn last_cell(rows: &[RowWord; MOST_CELLS]) -> usize
     ensures { result ≡ last_cell rows.now }
 {
-    let mut k = 0;
-    while k < PLACES {
-        if cell_of(rows, 2 * PLACES - 1 - k) {
-            return 2 * PLACES - 1 - k;
-        }
-        k += 1;
-    }
-    2 * PLACES - 1 - k
+    let back = (0..PLACES).find(
+        |&k|
+            requires { k < 4096 }
+        { cell_of(rows, 2 * PLACES - 1 - k) },
+    );
+    2 * PLACES - 1 - back.unwrap_or(PLACES)
 }
 
 // The 8 x 8 cells of a board from a column and a row on, as a link.
@@ -66,10 +57,8 @@ pub fn window(rows: &[RowWord; MOST_CELLS], x: usize, y: usize) -> RowWord
     ensures { result ≡ window rows.now x y 8 }
 {
     let mut v = 0;
-    let mut r = 0;
-    while r < 8 {
+    for r in 0..8 {
         v = (v << 8) | (turned(rows[(y % 64 + r) % 64], x) >> 56);
-        r += 1;
     }
     v
 }
@@ -90,11 +79,9 @@ fn rest_row(rows: &[RowWord; MOST_CELLS], link: RowWord, a: usize, y: usize) -> 
     ensures { result ≡ rest_row rows.now link a y 64 }
 {
     let mut acc = rows[y % 64];
-    let mut k = 0;
-    while k < 64 {
+    for k in 0..64 {
         let w = turned(rows[(y % 64 + k / 8) % 64], k % 8 + (64 - a % 8));
         acc = met(acc, link, k, w);
-        k += 1;
     }
     acc
 }
@@ -104,10 +91,8 @@ pub fn rest_of(rows: &[RowWord; MOST_CELLS], link: RowWord, a: usize) -> [RowWor
     ensures { result ≡ rest_of rows.now link a }
 {
     let mut rest = [0; MOST_CELLS];
-    let mut y = 0;
-    while y < MOST_CELLS {
+    for y in 0..MOST_CELLS {
         rest[y] = rest_row(rows, link, a, y);
-        y += 1;
     }
     rest
 }

@@ -15,16 +15,10 @@ use picture::{Bin, Depth, Ping, Point};
 fn mark_of(v: u8) -> u8
     ensures { result ≡ mark v }
 {
-    if v == 0 {
-        return b'.';
+    match v {
+        0 => b'.',
+        _ => b'#',
     }
-    b'#'
-}
-
-fn size(x: u8) -> usize
-    ensures { result ≡ x }
-{
-    x as usize
 }
 
 // One point as it is printed: a mark of one bit, else its value, after a space where others stand before it.
@@ -36,10 +30,11 @@ fn put_item(depth: Depth, t: &mut [u8], at: usize, v: u8, x: Ping) -> usize
     match depth {
         Depth::OneBit => digits::put_byte(t, at, mark_of(v)),
         Depth::EightBit => {
+            let n = usize::from(v);
             if x.0 == 0 {
-                return decimals::put_decimal(t, at, size(v));
+                return decimals::put_decimal(t, at, n);
             }
-            decimals::put_labelled(t, at, b" ", size(v))
+            decimals::put_labelled(t, at, b" ", n)
         }
     }
 }
@@ -56,20 +51,10 @@ fn put_items(depth: Depth, t: &mut [u8], at: usize, s: &[u8], w: usize, y: Bin) 
         ≡ put at (joined (point_item depth (value_at depth s.now w) y.0) w) t.old }
 {
     let mut next = at;
-    let mut x = 0;
-    while x < w {
-        let p = Point {
-            ping: Ping(x as u16),
-            bin: y,
-        };
-        next = put_item(
-            depth,
-            t,
-            next,
-            points::value(depth, s, w, p),
-            Ping(x as u16),
-        );
-        x += 1;
+    for x in 0..w {
+        let ping = Ping(x as u16);
+        let v = points::value(depth, s, w, Point { ping, bin: y });
+        next = put_item(depth, t, next, v, ping);
     }
     next
 }
@@ -96,10 +81,8 @@ fn put_lines(depth: Depth, t: &mut [u8], at: usize, s: &[u8], w: usize, h: usize
         ≡ put at (row_lines depth (value_at depth s.now w) w h) t.old }
 {
     let mut next = at;
-    let mut y = 0;
-    while y < h {
+    for y in 0..h {
         next = put_line(depth, t, next, s, w, Bin(y as u16));
-        y += 1;
     }
     next
 }

@@ -1,13 +1,14 @@
 -- The first ten bytes of a file, test after test;
 -- and what an answer that is done tells of a file and of a picture to be written.
-use Prim.Native.Nat.{ℕ, ◌≤◌, ◌<◌}
-use mathlib.Core.Path.{◌≡◌, refl, sym, ap, ◌∙◌}
+use Prim.Native.Nat.{ℕ, ◌≤◌}
+use mathlib.Core.Path.{◌≡◌, refl, sym, ap, ap₂, ◌∙◌}
 use mathlib.Core.Bool.{Bool, true, false, not, cond, ◌&&◌}
-use mathlib.Core.List.{List}
+use mathlib.Core.List.{List, [], ◌∷◌}
 use native.Mathlib.Omega.{arith}
-use borrow.Author.Tests.{eq-eqb, ne_eqb, eqb-true, lt-leb, le-leb, leb-true, not-false}
+use borrow.Author.Tests.{eq-eqb, ne_eqb, eqb-true, eqb-false, leb-true, not-false}
 use lib.Dec.{leb, eqb}
-use lib.ListN.{length, get_or}
+use Rattle.std.specs.List.{starts_with}
+use lib.ListN.{length}
 use Rattle.basics.proofs.Tests.{both}
 use Rattle.answer.specs.Answer.{plain, is_done}
 use Rattle.answer.specs.Refuse.{refuse}
@@ -58,54 +59,29 @@ reported_made kind known = by (eqb kind 3) refl
     by false e = (known, e)
 
 -- ---- the tests of a file's first bytes
--- ten bytes and the three letters
-pub record Marked (f : List ℕ) : Type 0 where
-  pub long : head_bytes ≤ length f
-  pub first : get_or f 0 0 ≡ 69
-  pub second : get_or f 1 0 ≡ 67
-  pub third : get_or f 2 0 ≡ 72
+-- the mark, as the code looks for it
+three : (x y z : Bool) → (x && (y && (z && true))) ≡ (x && y && z)
+three true true true = refl
+three true true false = refl
+three true false z = refl
+three false y z = refl
 
-module _ (f : List ℕ) where
-  pub too_short : length f < head_bytes → false ≡ formed f
-  unfolding formed
-  too_short l = simp (lt-leb head_bytes (length f) l)
+turned : (n a : ℕ) → eqb n a ≡ eqb a n
+turned n a = by (eqb n a) refl
+  where
+    by : (t : Bool) → eqb n a ≡ t → t ≡ eqb a n
+    by true e = sym (eq-eqb a n (sym (eqb-true n a e)))
+    by false e = sym (ne_eqb a n (λ q. eqb-false n a e (sym q)))
 
-  module _ (l : head_bytes ≤ length f) where
-    pub first_letter : (get_or f 0 0 ≡ 69 → ⊥) → false ≡ formed f
-    unfolding formed
-    first_letter n = simp (le-leb head_bytes (length f) l, ne_eqb _ _ n)
-
-    module _ (e : get_or f 0 0 ≡ 69) where
-      pub second_letter : (get_or f 1 0 ≡ 67 → ⊥) → false ≡ formed f
-      unfolding formed
-      second_letter n = simp (le-leb head_bytes (length f) l, eq-eqb _ _ e, ne_eqb _ _ n)
-
-      pub third_letter : get_or f 1 0 ≡ 67 → (get_or f 2 0 ≡ 72 → ⊥) → false ≡ formed f
-      unfolding formed
-      third_letter c n = simp (le-leb head_bytes (length f) l, eq-eqb _ _ e, eq-eqb _ _ c, ne_eqb _ _ n)
-
-  module _ (m : Marked f) (v : ℕ) (q : v ≡ version_of f) where
-    pub another_version : (v ≡ 1 → ⊥) → false ≡ formed f
-    unfolding formed
-    another_version n =
-        simp (
-          le-leb head_bytes (length f) m.long,
-          eq-eqb _ _ m.first,
-          eq-eqb _ _ m.second,
-          eq-eqb _ _ m.third,
-          ne_eqb (version_of f) 1 (λ p. n (q ∙ p)),
-        )
-
-    pub kind_decides : v ≡ 1 → known_kind (kind_of f) ≡ formed f
-    unfolding formed
-    kind_decides p =
-        simp (
-          le-leb head_bytes (length f) m.long,
-          eq-eqb _ _ m.first,
-          eq-eqb _ _ m.second,
-          eq-eqb _ _ m.third,
-          eq-eqb (version_of f) 1 (sym q ∙ p),
-        )
+pub marked_is : (f : List ℕ) → starts_with eqb f (69 ∷ 67 ∷ 72 ∷ []) ≡ mark_of f
+marked_is [] = refl
+marked_is (a ∷ []) = ap (λ x. x && false) (turned 69 a) ∙ three (eqb a 69) false false
+marked_is (a ∷ b ∷ []) =
+    ap₂ (λ x y. x && (y && false)) (turned 69 a) (turned 67 b) ∙ three (eqb a 69) (eqb b 67) false
+marked_is (a ∷ b ∷ d ∷ l) =
+    ap₂ (λ x y. x && (y && (eqb 72 d && true))) (turned 69 a) (turned 67 b)
+    ∙ ap (λ z. eqb a 69 && (eqb b 67 && (z && true))) (turned 72 d)
+    ∙ three (eqb a 69) (eqb b 67) (eqb d 72)
 
 -- and what a file that is formed tells
 pub record Formed (f : List ℕ) : Type 0 where

@@ -1,17 +1,20 @@
 -- What the reader leaves, from what its parts say.
 use Prim.Native.Nat.{ℕ, ◌≤◌}
-use mathlib.Core.Path.{◌≡◌, sym, ap, ap₂, ◌∙◌, subst}
-use mathlib.Core.Bool.{true, false, cond}
+use mathlib.Core.Path.{◌≡◌, refl, sym, ap, ap₂, ◌∙◌, subst}
+use mathlib.Core.Bool.{true, false}
 use mathlib.Core.List.{List}
 use native.Mathlib.Nat.{le_of_eq}
 use native.Mathlib.Omega.{arith}
 use lib.ListN.{length}
-use Rattle.answer.specs.declared.Answer.{Answer}
-use Rattle.answer.specs.declared.Answer.TheVariants.{Form}
+use Rattle.std.specs.Prelude.{Result, Ok, Err, is_err}
+use Rattle.std.proofs.lemmas.Result.{IfOk-from_err}
+use Rattle.answer.specs.declared.Refusal.{Refusal}
+use Rattle.answer.specs.declared.Refusal.TheVariants.{Form}
 use Rattle.answer.specs.declared.Told.{Told}
-use Rattle.answer.specs.Answer.{told, plain, is_done}
+use Rattle.answer.specs.Answer.{Answer, told, told_refusal, plain, is_done}
 use Rattle.answer.specs.Refuse.{refuse}
 use Rattle.answer.proofs.Lent.{kept_by, made_by_lem}
+use Rattle.answer.proofs.Variants.{err_undone, handed_on, ok_done}
 use Rattle.picture.specs.declared.Depth.{Depth}
 use Rattle.picture.specs.declared.Face.{Face}
 use Rattle.picture.specs.Frame.{picture_bytes, Holds}
@@ -23,18 +26,20 @@ use Rattle.ech.specs.declared.Header.{Header}
 use Rattle.ech.specs.File.{head_bytes, depth_of, face_of, reported, formed}
 use Rattle.ech.specs.File.{kind_of, reported_kind, pings_of, bins_of, body_of}
 use Rattle.ech.specs.ReadWrite.{picture_of, GivenBack, read_answer, read_target}
-use Rattle.ech.specs.Steps.Body.{refused_as, body_answer}
+use Rattle.ech.specs.Steps.Body.{body_answer}
 use Rattle.ech.proofs.Judging.{formed_tells, file_admitted, reported_depth}
 
--- numbers given back with a done answer, and with a refusal
-back_done : (a : Answer) (k kind w h : ℕ) (t : Told) → k ≡ kind → told a ≡ t → is_done t ≡ true
-    → GivenBack t kind w h (record { answer = a; kind = k; w = w; h = h })
-back_done a k kind w h t ek e d =
-    record { answer = e; kind = ek ∙ ap (λ b. cond b kind 0) (sym d); pings = simp d; bins = simp d }
-
-back_refused : (a : Answer) (kind w h : ℕ) (t : Told) → told a ≡ t → is_done t ≡ false
-    → GivenBack t kind w h (refused_as a)
-back_refused a kind w h t e d = record { answer = e; kind = simp d; pings = simp d; bins = simp d }
+-- a refusal gives back its answer alone
+pub back_refused : (kind w h : ℕ) (t : Told) (r : Result Header Refusal) (why : Refusal) → r ≡ Err why
+    → told r ≡ t → GivenBack t kind w h r
+back_refused kind w h t r why q e =
+    let none = ap is_err q in
+    record {
+      answer = e;
+      kind = IfOk-from_err r _ none;
+      pings = IfOk-from_err r _ none;
+      bins = IfOk-from_err r _ none;
+    }
 
 module _ (kind w h : ℕ) (s : List ℕ) (room : ℕ) (depth : Depth) (a : Answer) (ed : depth ≡ depth_of kind)
     (ea : told a ≡ refuse (body_tests Judged depth w h s 0 room) (plain 0)) where
@@ -42,19 +47,24 @@ module _ (kind w h : ℕ) (s : List ℕ) (room : ℕ) (depth : Depth) (a : Answe
   unfolding body_answer
   answer_is = ea ∙ ap (λ d. refuse (body_tests Judged d w h s 0 room) (plain 0)) ed
 
-  pub body_done : (k : ℕ) → k ≡ reported kind → is_done (told a) ≡ true
+  pub body_done : (x : Unit {0}) → a ≡ Ok x → (k : ℕ) → k ≡ reported kind
       → GivenBack (body_answer kind w h s room) (reported kind) w h
-      (record { answer = a; kind = k; w = w; h = h })
-  body_done k ek d =
-      back_done a k (reported kind) w h (body_answer kind w h s room) ek answer_is
-      (ap is_done (sym answer_is) ∙ d)
+      (Ok (record { kind = k; w = w; h = h }))
+  unfolding told
+  body_done x e k ek =
+      record {
+        answer = sym (ap (λ (b : Answer). told b) e) ∙ answer_is;
+        kind = ek;
+        pings = refl;
+        bins = refl;
+      }
 
-  pub body_refused : (r : Header) → is_done (told a) ≡ false → r ≡ refused_as a
+  pub body_refused : (why : Refusal) → a ≡ Err why → (r : Result Header Refusal)
+      → (n : Refusal) × (r ≡ Err n) × (n ≡ why)
       → GivenBack (body_answer kind w h s room) (reported kind) w h r
-  body_refused r d e =
-      subst (λ (x : Header). GivenBack (body_answer kind w h s room) (reported kind) w h x) (sym e)
-      (back_refused a (reported kind) w h (body_answer kind w h s room) answer_is
-      (ap is_done (sym answer_is) ∙ d))
+  body_refused why e r p =
+      back_refused (reported kind) w h (body_answer kind w h s room) r p.0 p.1
+      (handed_on a r why e p ∙ answer_is)
 
 -- a file is judged as its body is, once it is formed
 module _ (f : List ℕ) (room : ℕ) where
@@ -63,7 +73,8 @@ module _ (f : List ℕ) (room : ℕ) where
   unfolding body_answer read_answer
   formed_answer e = simp e
 
-  pub formed_judged : formed f ≡ true → (kind w h : ℕ) (s : List ℕ) (r : Header) → kind ≡ kind_of f
+  pub formed_judged : formed f ≡ true → (kind w h : ℕ) (s : List ℕ) (r : Result Header Refusal)
+      → kind ≡ kind_of f
       → w ≡ pings_of f
       → h ≡ bins_of f → s ≡ body_of f → GivenBack (body_answer kind w h s room) (reported kind) w h r
       → GivenBack (read_answer f room) (reported_kind f) (pings_of f) (bins_of f) r
@@ -76,35 +87,28 @@ module _ (f : List ℕ) (room : ℕ) where
       (subst (λ k. GivenBack (body_answer kind w k (body_of f) room) (reported kind) w k r) eh
       (subst (λ l. GivenBack (body_answer kind w h l room) (reported kind) w h r) es p))))
 
-  unformed_answer : formed f ≡ false → told Form ≡ read_answer f room
-  unfolding read_answer told
-  unformed_answer e = simp e
-
-  pub unformed : formed f ≡ false → (r : Header) → r ≡ refused_as Form
-      → GivenBack (read_answer f room) (reported_kind f) (pings_of f) (bins_of f) r
-  unfolding told plain
-  unformed e r q =
-      let n = unformed_answer e in
-      subst (λ (x : Header). GivenBack (read_answer f room) (reported_kind f) (pings_of f) (bins_of f) x)
-      (sym q)
-      (back_refused Form (reported_kind f) (pings_of f) (bins_of f) (read_answer f room) n
-      (ap is_done (sym n)))
+  pub unformed : formed f ≡ false
+      → GivenBack (read_answer f room) (reported_kind f) (pings_of f) (bins_of f) (Err Form)
+  unfolding told told_refusal read_answer
+  unformed e =
+      back_refused (reported_kind f) (pings_of f) (bins_of f) (read_answer f room) (Err Form) Form refl
+      (simp e)
 
 -- what is copied is the file's picture, and a refusal copies nothing
-module _ (f t : List ℕ) (room : ℕ) (r : Header)
-    (g : GivenBack (read_answer f room) (reported_kind f) (pings_of f) (bins_of f) r) where
-  module _ (e : is_done (told r.answer) ≡ true) where
+module _ (f t : List ℕ) (room : ℕ) where
+  module _ (r : Header)
+      (g : GivenBack (read_answer f room) (reported_kind f) (pings_of f) (bins_of f) (Ok r)) where
     pub done_read : is_done (read_answer f room) ≡ true
-    done_read = ap is_done (sym g.answer) ∙ e
+    done_read = ap is_done (sym g.answer) ∙ ok_done (Ok r) r refl
 
     pub own_kind : r.kind ≡ reported_kind f
-    own_kind = g.kind ∙ ap (λ b. cond b (reported_kind f) 0) done_read
+    own_kind = g.kind
 
     pub own_pings : r.w ≡ pings_of f
-    own_pings = g.pings ∙ ap (λ b. cond b (pings_of f) 0) done_read
+    own_pings = g.pings
 
     pub own_bins : r.h ≡ bins_of f
-    own_bins = g.bins ∙ ap (λ b. cond b (bins_of f) 0) done_read
+    own_bins = g.bins
 
     pub own_depth : (depth : Depth) → depth ≡ depth_of r.kind → depth ≡ depth_of (kind_of f)
     own_depth depth q = q ∙ ap depth_of own_kind ∙ reported_depth (kind_of f)
@@ -135,7 +139,8 @@ module _ (f t : List ℕ) (room : ℕ) (r : Header)
         → u ≡ written depth (faced depth face s r.w) r.w r.h t → u ≡ read_target f t
     unfolding read_target
     read_done er depth face s u ed ef es eu =
-        made_by_lem t _ (read_answer f (length t)) (told r.answer) (g.answer ∙ ap (read_answer f) er) u e
+        made_by_lem t _ (read_answer f (length t)) (told (Ok r)) (g.answer ∙ ap (read_answer f) er) u
+        (ok_done (Ok r) r refl)
         (eu ∙ ap₂ (λ (d : Depth) (l : List ℕ). written d (faced d face l r.w) r.w r.h t)
         (own_depth depth ed) es
         ∙ ap₂ (λ (k : Face) (w : ℕ). written (depth_of (kind_of f))
@@ -143,7 +148,8 @@ module _ (f t : List ℕ) (room : ℕ) (r : Header)
         ef own_pings
         ∙ ap (λ h. written (depth_of (kind_of f)) (picture_of f) (pings_of f) h t) own_bins)
 
-  pub read_refused : room ≡ length t → is_done (told r.answer) ≡ false → t ≡ read_target f t
+  pub read_refused : (r : Result Header Refusal) (why : Refusal) → r ≡ Err why
+      → told r ≡ read_answer f room → room ≡ length t → t ≡ read_target f t
   unfolding read_target
-  read_refused er e =
-      kept_by t _ (read_answer f (length t)) (told r.answer) (g.answer ∙ ap (read_answer f) er) e
+  read_refused r why q e er =
+      kept_by t _ (read_answer f (length t)) (told r) (e ∙ ap (read_answer f) er) (err_undone r why q)

@@ -11,9 +11,8 @@ use lib.ListN.{length, take, drop, length-drop, drop_of_length-le}
 use lib.Seq.{take_at, drop_at, drop-drop, take-length}
 use Rattle.basics.proofs.Lists.{tail_is}
 use Rattle.basics.proofs.Tests.{both}
-use Rattle.answer.specs.declared.Answer.{Answer}
-use Rattle.answer.specs.declared.Answer.TheVariants.{Form}
-use Rattle.answer.specs.Answer.{told, plain, is_done}
+use Rattle.answer.specs.declared.Refusal.TheVariants.{Form}
+use Rattle.answer.specs.Answer.{Answer, told, told_refusal, plain, is_done}
 use Rattle.answer.specs.declared.Told.{Told}
 use Rattle.answer.specs.Refuse.{refuse}
 use Rattle.answer.specs.Lent.{if_done, unless_refused}
@@ -87,12 +86,12 @@ file_made kind w h depth ed s t u ys eu ey =
 
 -- the writer's answer and target, from what its parts say
 module _ (kind w h : ℕ) (s t : List ℕ) where
-  pub unknown : (a : Answer) → a ≡ Form → known_kind kind ≡ false
-      → (told a ≡ write_answer kind w h s t) × (t ≡ write_target kind w h s t)
-  unfolding told plain write_answer write_target
-  unknown a q e =
-      let r : told a ≡ write_answer kind w h s t = ap told q ∙ simp e in
-      (r, kept_by t _ (write_answer kind w h s t) (told a) r (ap (λ x. is_done (told x)) q))
+  pub unknown : known_kind kind ≡ false
+      → (told_refusal Form ≡ write_answer kind w h s t) × (t ≡ write_target kind w h s t)
+  unfolding told_refusal plain write_answer write_target
+  unknown e =
+      let r : told_refusal Form ≡ write_answer kind w h s t = simp e in
+      (r, kept_by t _ (write_answer kind w h s t) (told_refusal Form) r refl)
 
   -- the picture's answer, for what is found of the kind and for a depth
   abbrev judged_as : Told → Depth → Told

@@ -1,7 +1,8 @@
 -- What the reader and the writer answer, and what they leave in the target.
-use Rattle.std.specs.Prelude.{ℕ, ◌+◌, not, cond, List, [], ◌∷◌, ◌++◌, eqb, length, drop, ◌≡◌}
+use Rattle.std.specs.Prelude.{ℕ, ◌+◌, not, List, [], ◌∷◌, ◌++◌, eqb, length, drop, ◌≡◌, Result, IfOk}
 use Rattle.answer.specs.declared.Told.{Told}
-use Rattle.answer.specs.Answer.{told, plain, is_done}
+use Rattle.answer.specs.declared.Refusal.{Refusal}
+use Rattle.answer.specs.Answer.{told, plain}
 use Rattle.answer.specs.Refuse.{Test, refuse}
 use Rattle.answer.specs.Lent.{unless_refused}
 use Rattle.picture.specs.Frame.{picture_bytes}
@@ -29,12 +30,13 @@ read_target f t =
     unless_refused (read_answer f (length t)) t
     (written (depth_of (kind_of f)) (picture_of f) (pings_of f) (bins_of f) t)
 
--- what a read gives back: the answer, and kind, W and H, or 0 for each where it is refused
-pub record GivenBack (answer-told : Told) (kind-read pings-read bins-read : ℕ) (r : Header) : Type 0 where
-  pub answer : told r.answer ≡ answer-told
-  pub kind : r.kind ≡ cond (is_done answer-told) kind-read 0
-  pub pings : r.w ≡ cond (is_done answer-told) pings-read 0
-  pub bins : r.h ≡ cond (is_done answer-told) bins-read 0
+-- what a read gives back: the answer, and kind, W and H where it is done; a refusal gives none
+pub record GivenBack (answer-told : Told) (kind-read pings-read bins-read : ℕ)
+    (r : Result Header Refusal) : Type 0 where
+  pub answer : told r ≡ answer-told
+  pub kind : IfOk r (λ head. head.kind ≡ kind-read)
+  pub pings : IfOk r (λ head. head.w ≡ pings-read)
+  pub bins : IfOk r (λ head. head.h ≡ bins-read)
 
 -- RETIRED: kind 3 is no longer made
 abbrev pub retired_tests : ℕ → List Test

@@ -9,20 +9,19 @@ ghost use Rattle.judge.specs.Tests.{Admitted};
 ghost use Rattle.ech.specs.File.{head_bytes, known_kind, depth_of, head_of, file_of};
 ghost use Rattle.ech.specs.ReadWrite.{retired_tests, write_answer, write_target};
 
-use answer::Answer;
+use answer::{Answer, Refusal};
 use ech::HEAD;
 use judge::Padding;
 use picture::Face;
 
 // The ten bytes before the body: the mark, version 1, the kind, W and H, low bytes first.
+#[tactic(auto, unfolding(ech::specs::File::head_of))]
 fn head_of(kind: usize, w: usize, h: usize) -> [u8; HEAD]
     requires { (kind ≤ 3) × ((w ≤ most_pings) × (h ≤ most_bins)) }
     ensures { result ≡ head_of kind w h }
 {
-    let low_w = (w % 0x100) as u8;
-    let high_w = (w / 0x100) as u8;
-    let low_h = (h % 0x100) as u8;
-    let high_h = (h / 0x100) as u8;
+    let [low_w, high_w] = (w as u16).to_le_bytes();
+    let [low_h, high_h] = (h as u16).to_le_bytes();
     [
         b'E', b'C', b'H', 1, 0, kind as u8, low_w, high_w, low_h, high_h,
     ]
@@ -46,10 +45,10 @@ fn put_file(kind: usize, w: usize, h: usize, source: &[u8], target: &mut [u8])
 fn retired(kind: usize) -> Answer
     ensures { told result ≡ refuse (retired_tests kind) (plain 0) }
 {
-    if kind == 3 {
-        return Answer::Retired;
+    match kind {
+        3 => Err(Refusal::Retired),
+        _ => Ok(()),
     }
-    Answer::Done
 }
 
 // Writes a picture as a file of the kind.
@@ -57,24 +56,21 @@ pub fn write_ech(kind: usize, w: usize, h: usize, source: &[u8], target: &mut [u
     ensures result_value { told result ≡ write_answer kind w h source.now target.old }
     ensures target_after { target.new ≡ write_target kind w h source.now target.old }
 {
-    if ech::is_known(kind) {
-        let depth = ech::depth_of(kind);
-        let room = target.len();
-        let a = judge::refusal(
-            Padding::Free,
-            depth,
-            w,
-            h,
-            source,
-            retired(kind),
-            HEAD,
-            room,
-        );
-        if answer::is_done(a) {
-            put_file(kind, w, h, source, target);
-            return a;
-        }
-        return a;
+    if !ech::is_known(kind) {
+        return Err(Refusal::Form);
     }
-    Answer::Form
+    let depth = ech::depth_of(kind);
+    let room = target.len();
+    judge::refusal(
+        Padding::Free,
+        depth,
+        w,
+        h,
+        source,
+        retired(kind),
+        HEAD,
+        room,
+    )?;
+    put_file(kind, w, h, source, target);
+    Ok(())
 }

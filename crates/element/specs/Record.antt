@@ -1,5 +1,5 @@
 -- The element as the code holds it, and its one reading as a Shape.
-use Rattle.std.specs.Prelude.{ℕ, ◌-◌, Bool, List, get_or, replicate}
+use Rattle.std.specs.Prelude.{ℕ, ◌-◌, Bool, List, get_or}
 use Rattle.basics.specs.Bits.{on}
 use Rattle.picture.specs.declared.Depth.TheVariants.{OneBit}
 use Rattle.picture.specs.declared.Point.{Point}
@@ -21,17 +21,10 @@ origin_of d = record { ping = record { 0 = origin_column_of d }; bin = record { 
 abbrev pub outline_in : List ℕ → Outline
 outline_in d = record { w = wide_of d; h = high_of d; origin = origin_of d }
 
--- the record of a descriptor, and that of none
+-- the record of a descriptor
 unfoldable pub element_of : List ℕ → Element
 element_of d =
     record { outline = outline_in d; rows = row_words d (row_bytes OneBit (wide_of d)) (high_of d) }
-
-unfoldable pub nothing : Element
-nothing =
-    record {
-      outline = record { w = 0; h = 0; origin = record { ping = record { 0 = 0 }; bin = record { 0 = 0 } } };
-      rows = replicate most_cells 0;
-    }
 
 -- what the record stands for: flat, and with the heights in the descriptor's own bytes
 unfoldable pub shape_of : Element → Shape

@@ -5,7 +5,6 @@ ghost use Rattle.std.specs.Prelude.{◌≡◌, ◌+◌, ◌*◌, ◌≤◌, ◌<
 ghost use Rattle.element.specs.Descriptor.{most_cells, cells_end, descriptor_length};
 ghost use Rattle.element.specs.Record.{cell_on, origin_of};
 
-use answer::Answer;
 use picture::{Bin, Depth, Ping, Point};
 
 // The limit: cells across, and cells down. A row word has a bit for each.
@@ -31,25 +30,12 @@ pub struct Element {
     pub rows: [RowWord; MOST_CELLS],
 }
 
-// The array stands beside the answer.
-#[derive(Clone, Copy)]
-pub struct Read {
-    pub answer: Answer,
-    pub element: Element,
-}
-
-fn size(x: u8) -> usize
-    ensures { (result ≡ x) × (result ≤ 255) }
-{
-    x as usize
-}
-
 // The cell of a column in a row word: the first cell is the highest bit.
 pub fn cell(word: RowWord, column: Ping) -> bool
     requires { column.0 < most_cells }
     ensures { result ≡ cell_on word column.0 }
 {
-    let c = column.0 as usize;
+    let c = usize::from(column.0);
     (word >> (MOST_CELLS - 1 - c)) & 1 == 1
 }
 
@@ -67,19 +53,20 @@ pub fn origin_of(d: &[u8]) -> Point
     ensures { result ≡ origin_of d.now }
 {
     Point {
-        ping: Ping(d[2] as u16),
-        bin: Bin(d[3] as u16),
+        ping: Ping(u16::from(d[2])),
+        bin: Bin(u16::from(d[3])),
     }
 }
 
 // How many of the bytes d, which may go on,
 // are a descriptor by its own w and h; all of them where it is cut short.
+#[tactic(auto, unfolding(crate::specs::Descriptor::descriptor_length))]
 pub fn descriptor_len(d: &[u8]) -> usize
     ensures { result ≡ descriptor_length d.now }
 {
     if d.len() < 2 {
         return d.len();
     }
-    let end = cells_end(size(d[0]), size(d[1]));
-    if d.len() < end { d.len() } else { end }
+    let end = cells_end(usize::from(d[0]), usize::from(d[1]));
+    d.len().min(end)
 }

@@ -7,8 +7,8 @@ use mathlib.Core.List.{List}
 use native.Mathlib.Omega.{arith}
 use lib.Dec.{T}
 use lib.ListN.{take}
-use Rattle.answer.specs.declared.Answer.{Answer}
-use Rattle.answer.specs.declared.Answer.TheVariants.{Done}
+use Rattle.std.specs.Prelude.{Ok, Err}
+use Rattle.answer.specs.declared.Refusal.{Refusal}
 use Rattle.answer.specs.Answer.{told}
 use Rattle.element.specs.declared.Element.{Element}
 use Rattle.element.specs.Shape.{Shape}
@@ -98,13 +98,15 @@ module _ (e : Element) (links : List Link) (k : ℕ)
   pub found_told : (n : ℕ) (at : Offset) → at ≡ offset_no n
       → Split (least + n % row_offsets) (least + n / row_offsets)
       ≡ check_of (shape_of e) (shapes_of (take k links))
-      → told (Answer.Split at.x at.y) ≡ told (answer_of (check_of (shape_of e) (shapes_of (take k links))))
+      → told {A = Unit {0}} (Err (Refusal.Split at.x at.y))
+      ≡ told (answer_of (check_of (shape_of e) (shapes_of (take k links))))
   unfolding answer_of
   found_told n at ea q =
-      ap (λ (a : Offset). told (Answer.Split a.x a.y)) ea ∙ ap (λ v. told (answer_of v)) q
+      ap (λ (a : Offset). told {A = Unit {0}} (Err (Refusal.Split a.x a.y))) ea
+      ∙ ap (λ v. told (answer_of v)) q
 
   pub none_told : Taken ≡ check_of (shape_of e) (shapes_of (take k links))
-      → told Done ≡ told (answer_of (check_of (shape_of e) (shapes_of (take k links))))
+      → told (Ok (tt {0})) ≡ told (answer_of (check_of (shape_of e) (shapes_of (take k links))))
   unfolding answer_of
   none_told q = ap (λ v. told (answer_of v)) q
 

@@ -13,7 +13,7 @@ ghost use Rattle.reach.specs.Steps.Boards.{holds_of, Small};
 ghost use Rattle.faults.specs.Verdicts.{answer_of};
 ghost use Rattle.faults.specs.Steps.Scan.{fault_by, offset_no, all_offsets};
 
-use answer::{Answer, CENTRE};
+use answer::{Answer, CENTRE, Refusal};
 use element::{MOST_CELLS, Outline, RowWord};
 use picture::Ping;
 use reach::{Link, MOST_LINKS, Offset, SUMS, Sum};
@@ -107,13 +107,11 @@ pub fn check(
 {
     let sums = paths::all_sums(links, k);
     let words = sums.words;
-    let mut n = 0;
-    while n < ALL {
+    for n in 0..ALL {
         let at = offset_no(n);
         if at_fault(cells, outline, &words, sums.origin, links, k, at) {
-            return Answer::Split(at.x as u8, at.y as u8);
+            return Err(Refusal::Split(at.x as u8, at.y as u8));
         }
-        n += 1;
     }
-    Answer::Done
+    Ok(())
 }

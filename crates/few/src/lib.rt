@@ -53,6 +53,7 @@ fn list_row(
     let base = cellwise::side(grows, o.h, r) * w;
     let mut m = word;
     let mut count = n;
+    // The cells are taken out of the word one by one: std has no iterator of them, so a `while`.
     while m != 0 {
         let c = packedline::first_cell(m);
         count = push(at, count, base + cellwise::side(grows, o.w, c));
@@ -69,13 +70,11 @@ fn list_cells(at: &mut [u32], grows: bool, w: usize, o: Outline, words: &[RowWor
     ensures number { Counted result 0 (cells_in words.now o.w o.h) }
 {
     let mut n = 0;
-    let mut r = 0;
-    while r < o.h {
+    for r in 0..o.h {
         n = list_row(at, n, grows, w, o, words, r);
         if FEW < n {
             return n;
         }
-        r += 1;
     }
     n
 }

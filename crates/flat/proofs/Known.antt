@@ -1,8 +1,7 @@
--- What is known where an operation by one element is not refused, and what then is left in its buffers;
--- and a call that goes by its depth.
+-- What is known where an operation by one element is not refused, and what then is left in its buffers.
 use Prim.Native.Nat.{ℕ, ◌≤◌}
-use mathlib.Core.Path.{◌≡◌, sym, ap, ap₂, ◌∙◌, subst}
-use mathlib.Core.Bool.{Bool, true}
+use mathlib.Core.Path.{◌≡◌, sym, ap, ap₂, ◌∙◌}
+use mathlib.Core.Bool.{Bool, true, false}
 use mathlib.Core.List.{List}
 use native.Mathlib.Nat.{le_of_eq}
 use native.Mathlib.Omega.{arith}
@@ -10,7 +9,8 @@ use lib.ListN.{length}
 use Rattle.answer.specs.declared.Told.{Told}
 use Rattle.answer.specs.Answer.{plain, is_done}
 use Rattle.answer.specs.Refuse.{refuse}
-use Rattle.answer.proofs.Lent.{made_by_lem}
+use Rattle.answer.specs.Lent.{unless_refused}
+use Rattle.answer.proofs.Lent.{kept_by, made_by_lem}
 use Rattle.basics.specs.Bytes.{Bytes}
 use Rattle.picture.specs.declared.Depth.{Depth}
 use Rattle.picture.specs.Frame.{Holds}
@@ -36,12 +36,19 @@ pub record Known (depth : Depth) (w h : ℕ) (s d : List ℕ) (room : ℕ) (answ
   pub cells : cells_made d ≡ true
   pub admitted : Admitted Free depth w h s 0 room
 
--- by the descriptor as it was found, and the room as it was counted
-module _ (depth : Depth) (w h : ℕ) (s d : List ℕ) (n room : ℕ) (made : Bool) (answer : Told)
-    (en : n ≡ room) (em : made ≡ well_made d)
-    (ea : answer ≡ refuse (element_tests Free depth w h s made n) (plain 0)) where
-  pub answer_is : answer ≡ flat_answer depth w h s d room
-  answer_is = ea ∙ ap₂ (λ m n. refuse (element_tests Free depth w h s m n) (plain 0)) em en
+-- by the depth and the descriptor as they were found, and the room as it was counted
+module _ (depth : Depth) (w h : ℕ) (s d : List ℕ) {found : Depth} {n room : ℕ} {made : Bool} {answer : Told}
+    (ef : found ≡ depth) (en : n ≡ room) (em : made ≡ well_made d)
+    (ea : answer ≡ refuse (element_tests Free found w h s made n) (plain 0)) where
+  answer_is : answer ≡ flat_answer depth w h s d room
+  answer_is =
+      ea ∙ ap (λ f. refuse (element_tests Free f w h s made n) (plain 0)) ef
+      ∙ ap₂ (λ m n. refuse (element_tests Free depth w h s m n) (plain 0)) em en
+
+  -- a buffer where the call is refused
+  pub refused_left : is_done answer ≡ false → (t made : List ℕ)
+      → t ≡ unless_refused (flat_answer depth w h s d room) t made
+  refused_left e t made = kept_by t made _ _ answer_is e
 
   pub known : is_done answer ≡ true → Known depth w h s d room answer
   known e =
@@ -77,25 +84,3 @@ module _ {depth : Depth} {w h : ℕ} {s d : List ℕ} {room : ℕ} {answer : Tol
           (flat_twice_written d k.cells b e q by w h (value_at depth s w) t u depth
           (eu ∙ ap (λ g. written depth
           (flat_twice_by g depth w h e.outline e.rows (value_at depth s w)) w h t) eg))
-
--- ---- a call goes by its depth as it was found
-module _ (depth found : Depth) (e : depth ≡ found) (w h : ℕ) (s d : List ℕ) (room : ℕ) (answer : Told)
-    (grows : Bool) where
-  pub once_at : (t u : List ℕ) → (answer ≡ flat_answer found w h s d room)
-      × (u ≡ flat_left found (once_by grows found) w h s d room t)
-      → (answer ≡ flat_answer depth w h s d room)
-      × (u ≡ flat_left depth (once_by grows depth) w h s d room t)
-  once_at t u p =
-      subst (λ z. (answer ≡ flat_answer z w h s d room)
-      × (u ≡ flat_left z (once_by grows z) w h s d room t)) (sym e) p
-
-  pub twice_at : (t u m v : List ℕ) → (answer ≡ flat_answer found w h s d room)
-      × ((u ≡ flat_left found (twice_by grows found) w h s d room t)
-      × (v ≡ flat_left found (once_by grows found) w h s d room m))
-      → (answer ≡ flat_answer depth w h s d room)
-      × ((u ≡ flat_left depth (twice_by grows depth) w h s d room t)
-      × (v ≡ flat_left depth (once_by grows depth) w h s d room m))
-  twice_at t u m v p =
-      subst (λ z. (answer ≡ flat_answer z w h s d room)
-      × ((u ≡ flat_left z (twice_by grows z) w h s d room t)
-      × (v ≡ flat_left z (once_by grows z) w h s d room m))) (sym e) p

@@ -14,14 +14,14 @@ ghost use Rattle.freeblocks.specs.Steps.Plain.{Far, Sure, Under, least_of, sure_
 
 const WIDE: usize = 128;
 
-// A sum or a difference held to 0..255, in the form that is compiled to one instruction.
+// A sum or a difference held to 0..255, which is compiled to one instruction.
 fn plain(up: bool, g: u8, v: u8) -> u8
     ensures { result ≡ plain_by up g v }
 {
     if up {
-        v + basics::lesser_byte(g, 255 - v)
+        v.saturating_add(g)
     } else {
-        v - basics::lesser_byte(g, v)
+        v.saturating_sub(g)
     }
 }
 
@@ -31,16 +31,15 @@ fn joined(grows: bool, up: bool, a: u8, g: u8, v: u8) -> u8
     joins::join(false, grows, a, plain(up, g, v))
 }
 
-// Two blocks joined with what one cell finds from the place `at` on.
+// Two blocks joined with what one cell finds from the place `at` on. Crate weighblocks does the same with one
+// block and ends that are held: one loop for both would have to be handed what a cell makes of a value.
 fn join_cell(grows: bool, up: bool, a: [u8; WIDE], b: &[u8], at: usize, g: u8) -> [u8; WIDE]
     requires { at + 128 ≤ length b.now }
     ensures { result ≡ plain_block grows up a b.now at g }
 {
     let mut c = a;
-    let mut i = 0;
-    while i < WIDE {
+    for i in 0..WIDE {
         c[i] = joined(grows, up, c[i], g, b[at + i]);
-        i += 1;
     }
     c
 }
@@ -53,38 +52,18 @@ fn join_cells(grows: bool, up: bool, c: [u8; WIDE], b: &[u8], i: usize, cells: &
         (length cells.now)) 128 }
 {
     let mut acc = c;
-    let mut j = 0;
-    while j < cells.len() {
-        let k = cells[j];
-        let next = join_cell(grows, up, acc, b, i + ((k / 256) as usize), (k % 256) as u8);
+    for k in cells {
+        let next = join_cell(
+            grows,
+            up,
+            acc,
+            b,
+            i + ((*k / 256) as usize),
+            (*k % 256) as u8,
+        );
         acc = next;
-        j += 1;
     }
     acc
-}
-
-fn wide_at(s: &[u8], at: usize) -> [u8; WIDE]
-    requires { at + 128 ≤ length s.now }
-    ensures { result ≡ firsts (λ i. get_or s.now (at + i) 0) 128 }
-{
-    let mut c = [0u8; WIDE];
-    let mut i = 0;
-    while i < WIDE {
-        c[i] = s[at + i];
-        i += 1;
-    }
-    c
-}
-
-fn put_wide(t: &mut [u8], at: usize, c: [u8; WIDE])
-    requires { at + 128 ≤ length t.old }
-    ensures { t.new ≡ laid at 128 (λ i. get_or c i 0) t.old }
-{
-    let mut i = 0;
-    while i < WIDE {
-        t[at + i] = c[i];
-        i += 1;
-    }
 }
 
 // How far a value is from the end that has to be held.
@@ -98,10 +77,8 @@ fn least_of(grows: bool, c: [u8; WIDE]) -> u8
     ensures { Far grows c result }
 {
     let mut w = 255u8;
-    let mut i = 0;
-    while i < WIDE {
-        w = basics::lesser_byte(w, turned(grows, c[i]));
-        i += 1;
+    for i in 0..WIDE {
+        w = w.min(turned(grows, c[i]));
     }
     w
 }
@@ -120,10 +97,8 @@ fn most_of(cells: &[u16]) -> u8
     ensures { Under cells.now (result + 1) }
 {
     let mut g = 0u8;
-    let mut j = 0;
-    while j < cells.len() {
-        g = basics::greater_byte(g, (cells[j] % 256) as u8);
-        j += 1;
+    for k in cells {
+        g = g.max((*k % 256) as u8);
     }
     g
 }
@@ -162,19 +137,17 @@ fn join_free(
         (λ m. both_at grows (get_or t.old m 0) b.now m
         rising.now others.now) t.old }
 {
-    let mut k = 0;
-    while k < n {
+    for k in 0..n {
         let i = WIDE * k;
-        let c = wide_at(t, i);
+        let c = blocks::bytes_at(t, i);
         let x = join_cells(grows, grows, c, b, i, rising);
         let d = join_cells(grows, !grows, x, b, i, others);
         if shows(grows, d, limit) {
             return k;
         }
-        put_wide(t, i, d);
-        k += 1;
+        blocks::put_bytes(t, i, d);
     }
-    k
+    n
 }
 
 // The blocks of t from the block `from` on, up to the block n, joined with the ends held.
@@ -193,13 +166,11 @@ fn join_held(
         (λ m. both_at grows (get_or t.old (64 * from + m) 0) b.now
         (64 * from + m) rising.now others.now) t.old }
 {
-    let mut k = from;
-    while k < n {
+    for k in from..n {
         let i = 64 * k;
         let c = blocks::block_at(t, i);
         let d = weighblocks::join_both(grows, c, b, i, rising, others);
         blocks::put_block(t, i, d);
-        k += 1;
     }
 }
 
@@ -209,10 +180,8 @@ fn least_in(grows: bool, t: &[u8], n: usize) -> u8
     ensures { result ≡ least_of grows t.now n }
 {
     let mut w = 255u8;
-    let mut i = 0;
-    while i < n {
-        w = basics::lesser_byte(w, turned(grows, t[i]));
-        i += 1;
+    for i in 0..n {
+        w = w.min(turned(grows, t[i]));
     }
     w
 }

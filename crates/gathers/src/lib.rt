@@ -9,13 +9,6 @@ ghost use Rattle.blocks.specs.Steps.Laid.{laid};
 ghost use Rattle.rooms.specs.Steps.Joined.{at_places, Reached};
 ghost use Rattle.gathers.specs.Steps.Gathered.{at_all, stepped};
 
-// A place as a number that counts.
-fn wide(p: u32) -> usize
-    ensures { result ≡ p }
-{
-    p as usize
-}
-
 // What stands at all places, i bytes on: a block of it.
 fn block(grows: bool, s: &[u8], i: usize, at: &[u32]) -> [u8; blocks::BLOCK]
     requires at_nonzero { 0 < length at.now }
@@ -23,12 +16,10 @@ fn block(grows: bool, s: &[u8], i: usize, at: &[u32]) -> [u8; blocks::BLOCK]
     ensures { result ≡ firsts (λ m. at_all grows s.now at.now (i + m)) 64 }
 {
     // the first place is taken as it stands: that saves a pass
-    let mut acc = blocks::block_at(s, i + wide(at[0]));
-    let mut j = 1;
-    while j < at.len() {
-        let next = joins::join_block(false, grows, acc, s, i + wide(at[j]));
+    let mut acc = blocks::block_at(s, i + at[0] as usize);
+    for j in 1..at.len() {
+        let next = joins::join_block(false, grows, acc, s, i + at[j] as usize);
         acc = next;
-        j += 1;
     }
     acc
 }
@@ -40,11 +31,9 @@ fn lay_blocks(grows: bool, s: &[u8], t: &mut [u8], from: usize, n: usize, at: &[
     ensures { t.new
         ≡ laid from (64 * n) (at_all grows s.now at.now) t.old }
 {
-    let mut k = 0;
-    while k < n {
+    for k in 0..n {
         let c = block(grows, s, 64 * k, at);
         blocks::put_block(t, from + 64 * k, c);
-        k += 1;
     }
 }
 
@@ -69,10 +58,8 @@ fn point(grows: bool, s: &[u8], i: usize, at: &[u32]) -> u8
         (length at.now) }
 {
     let mut c = blocks::beyond(grows);
-    let mut j = 0;
-    while j < at.len() {
-        c = joins::join(false, grows, c, s[i + wide(at[j])]);
-        j += 1;
+    for p in at {
+        c = joins::join(false, grows, c, s[i + *p as usize]);
     }
     c
 }
@@ -86,9 +73,7 @@ pub fn step(grows: bool, s: &[u8], t: &mut [u8], w: usize, a: usize, n: usize, a
         (λ i. at_places grows (start_by grows 255) s.now (i * w) at.now
         (length at.now)) t.old }
 {
-    let mut i = 0;
-    while i < n {
+    for i in 0..n {
         t[a + i * w] = point(grows, s, i * w, at);
-        i += 1;
     }
 }

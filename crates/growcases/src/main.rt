@@ -3,7 +3,6 @@
 // tools/cases makes the lines, says what their letters and numbers mean, and makes what must be printed.
 #![tactic(auto)]
 
-use answer::Answer;
 use grown::Neighbours;
 use lines::Head;
 use std::io;
@@ -24,8 +23,8 @@ fn run(
     mask: &[u8],
 ) -> io::Result<()> {
     let by = neighbours_of(head.letter);
-    let a: Answer = reconstruct::reconstruct(by, head.w, head.h, marker, mask, target);
-    show::answered(rt, a)?;
+    let answer = reconstruct::reconstruct(by, head.w, head.h, marker, mask, target);
+    show::answered(rt, answer)?;
     show::buffer(rt, b"target", target)
 }
 
@@ -39,7 +38,10 @@ fn given(rt: &impl Print, head: Head, line: &[u8], at: usize, target: &mut [u8])
 }
 
 // A label, or a job and the buffer that it lends.
-fn job(rt: &impl Print, letter: u8, line: &[u8]) -> io::Result<()> {
+fn job(rt: &impl Print, line: &[u8]) -> io::Result<()> {
+    let Some(&letter) = line.first() else {
+        return Ok(());
+    };
     if letter == b'#' {
         return show::text(rt, line);
     }
@@ -50,11 +52,8 @@ fn job(rt: &impl Print, letter: u8, line: &[u8]) -> io::Result<()> {
 }
 
 fn each_line(rt: &impl Print, input: &[u8]) -> io::Result<()> {
-    let mut at = 0;
-    while at < input.len() {
-        let end = numbers::line_end(input, at);
-        job(rt, input[at], &input[at..end])?;
-        at = end;
+    for line in input.split_inclusive(|b| *b == b'\n') {
+        job(rt, line)?;
     }
     Ok(())
 }

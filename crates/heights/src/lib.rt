@@ -10,31 +10,26 @@ use element::SIGN_BIT;
 use picture::{Bin, Depth, Ping, Point};
 
 // One height beside its cell.
-fn height_made(set: u8, g: u8) -> bool
-    ensures { result ≡ height_made (eqb set 1) g }
+fn height_made(set: bool, g: u8) -> bool
+    ensures { result ≡ height_made set g }
 {
-    if set == 1 {
-        return g != SIGN_BIT;
-    }
-    g == 0
+    if set { g != SIGN_BIT } else { g == 0 }
 }
 
 // The heights of one row beside its cells.
+#[tactic(auto, using(basics::proofs::Tests::walk), unfolding(element::specs::Descriptor::height_made_at))]
 fn row_heights_made(cells: &[u8], heights: &[u8], w: usize, row: Bin) -> bool
     requires { Weighed (length cells.now) (length heights.now) w row.0 }
     ensures { result ≡ heights_made_in cells.now heights.now w row.0 }
 {
-    let mut c = 0;
-    while c < w {
+    for c in 0..w {
         let at = Point {
             ping: Ping(c as u16),
             bin: row,
         };
-        let set = points::value(Depth::OneBit, cells, w, at);
+        let set = points::value(Depth::OneBit, cells, w, at) == 1;
         let g = points::value(Depth::EightBit, heights, w, at);
-        if height_made(set, g) {
-            c += 1;
-        } else {
+        if !height_made(set, g) {
             return false;
         }
     }
@@ -42,16 +37,14 @@ fn row_heights_made(cells: &[u8], heights: &[u8], w: usize, row: Bin) -> bool
 }
 
 // The heights of all rows.
+#[tactic(auto, using(basics::proofs::Tests::walk), unfolding(element::specs::Descriptor::heights_made))]
 pub fn heights_made(cells: &[u8], heights: &[u8], w: usize, h: usize) -> bool
     requires holds { Holds Depth.OneBit (length cells.now) w h }
     requires holds_2 { Holds Depth.EightBit (length heights.now) w h }
     ensures { result ≡ heights_made cells.now heights.now w h }
 {
-    let mut y = 0;
-    while y < h {
-        if row_heights_made(cells, heights, w, Bin(y as u16)) {
-            y += 1;
-        } else {
+    for y in 0..h {
+        if !row_heights_made(cells, heights, w, Bin(y as u16)) {
             return false;
         }
     }

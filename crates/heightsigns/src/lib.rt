@@ -46,7 +46,7 @@ fn height_at(heights: &[u8], i: usize) -> u8
     if i < heights.len() { heights[i] } else { 0 }
 }
 
-// 1 where the cell is set and its height is of the side that is asked for.
+// 1 where the cell is set and its height is of the side that is asked for: a number, for it is added.
 fn takes(word: RowWord, column: Ping, rises: bool, g: u8) -> usize
     requires { column.0 < most_cells }
     ensures { result ≡ cond (taken_of word column.0 rises g) 1 0 }
@@ -97,15 +97,13 @@ pub fn cells_both(
 {
     let mut n = 0;
     let mut m = 0;
-    let mut c = 0;
-    while c < wide {
+    for c in 0..wide {
         let g = height_at(heights, first + c);
         let k = entry(packedline::cell_place(grows, o, c), size_of(g));
         rising[n] = k;
         others[m] = k;
         n += takes(word, Ping(c as u16), true, g);
         m += takes(word, Ping(c as u16), false, g);
-        c += 1;
     }
     Counts {
         rising: n,

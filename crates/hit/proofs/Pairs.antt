@@ -7,8 +7,8 @@ use native.Mathlib.Omega.{arith}
 use borrow.Author.Tests.{not-false}
 use lib.ListN.{length}
 use Rattle.answer.specs.declared.Told.{Told}
-use Rattle.answer.specs.declared.Answer.TheVariants.{Done, Shape, Overlap}
-use Rattle.answer.specs.Answer.{told, plain, is_done}
+use Rattle.answer.specs.declared.Refusal.TheVariants.{Shape, Overlap}
+use Rattle.answer.specs.Answer.{told_refusal, plain, is_done}
 use Rattle.answer.specs.Refuse.{refuse}
 use Rattle.answer.specs.Lent.{if_done}
 use Rattle.answer.proofs.Order.{Numbered}
@@ -20,6 +20,7 @@ use Rattle.picture.specs.Points.{value_at}
 use Rattle.picture.specs.Bytes.{written}
 use Rattle.picture.proofs.Points.{written_same}
 use Rattle.element.specs.declared.Element.{Element}
+use Rattle.element.specs.declared.Outline.{Outline}
 use Rattle.element.specs.Descriptor.{most_cells, cells_made, well_made, shape_in}
 use Rattle.element.specs.Record.{element_of, shape_of}
 use Rattle.element.proofs.Cells.{cell_same}
@@ -34,6 +35,12 @@ use Rattle.hit.specs.Hit.{pair_tests, hit_tests}
 use Rattle.hit.specs.Steps.Rows.{hit_at}
 
 -- ---- the elements of two well made descriptors
+-- an outline and row words that were read of one descriptor are its element
+pub whole : (d : List ℕ) (o : Outline) (rows : List ℕ) → o ≡ (element_of d).outline
+    → rows ≡ (element_of d).rows
+    → ◌≡◌ {A = Element} (record { outline = o; rows = rows }) (element_of d)
+whole d o rows p q = ap₂ (λ (o : Outline) (rows : List ℕ). record { outline = o; rows = rows }) p q
+
 module _ (d : List ℕ) (m : cells_made d ≡ true) (e : Element) (q : e ≡ element_of d) where
   pub small_outline : (e.outline.w ≤ most_cells)
       × ((e.outline.h ≤ most_cells) × (e.outline.h ≤ length e.rows))
@@ -66,24 +73,23 @@ module _ (hit miss : List ℕ) (b : Bytes hit) (b' : Bytes miss)
 
 -- ---- what the two answer, by what is met first
 module _ (a b o : Bool) where
-  pub first_unmade : a ≡ false → told Shape ≡ refuse (pair_tests a b o) (plain 0)
-  unfolding told
+  pub first_unmade : a ≡ false → told_refusal Shape ≡ refuse (pair_tests a b o) (plain 0)
+  unfolding told_refusal
   first_unmade e = ap (λ a. refuse (pair_tests a b o) (plain 0)) (sym e)
 
   module _ (e : a ≡ true) where
-    pub second_unmade : b ≡ false → told Shape ≡ refuse (pair_tests a b o) (plain 0)
-    unfolding told
+    pub second_unmade : b ≡ false → told_refusal Shape ≡ refuse (pair_tests a b o) (plain 0)
+    unfolding told_refusal
     second_unmade q = ap₂ (λ a b. refuse (pair_tests a b o) (plain 0)) (sym e) (sym q)
 
     module _ (q : b ≡ true) where
-      pub overlapping : o ≡ true → told Overlap ≡ refuse (pair_tests a b o) (plain 0)
-      unfolding told
+      pub overlapping : o ≡ true → told_refusal Overlap ≡ refuse (pair_tests a b o) (plain 0)
+      unfolding told_refusal
       overlapping z =
           ap₂ (λ (p : Bool) (o : Bool). refuse (pair_tests p true o) (plain 0)) (sym e) (sym z)
           ∙ ap (λ b. refuse (pair_tests a b o) (plain 0)) (sym q)
 
-      pub apart : o ≡ false → told Done ≡ refuse (pair_tests a b o) (plain 0)
-      unfolding told
+      pub apart : o ≡ false → plain 0 ≡ refuse (pair_tests a b o) (plain 0)
       apart z =
           ap₂ (λ (p : Bool) (o : Bool). refuse (pair_tests p true o) (plain 0)) (sym e) (sym z)
           ∙ ap (λ b. refuse (pair_tests a b o) (plain 0)) (sym q)

@@ -15,7 +15,7 @@ ghost use Rattle.rows.specs.Steps.Ready.{Ready};
 ghost use Rattle.hit.specs.Hit.{pair_tests, hit_answer, hit_left};
 ghost use Rattle.hit.specs.Steps.Rows.{hit_at, hit_row};
 
-use answer::Answer;
+use answer::{Answer, Refusal};
 use bitrow::Task;
 use element::{Outline, RowWord};
 use judge::Padding;
@@ -26,10 +26,8 @@ fn meet(t: &mut [u8], by: &[u8])
     requires { length by.now ≡ length t.old }
     ensures { t.new ≡ zip_in bit_and t.old by.now }
 {
-    let mut i = 0;
-    while i < by.len() {
+    for i in 0..by.len() {
         t[i] = t[i] & by[i];
-        i += 1;
     }
 }
 
@@ -86,8 +84,7 @@ fn hit_rows(
         t.old }
 {
     let n = picture::row_bytes(Depth::OneBit, w);
-    let mut y = 0;
-    while y < h {
+    for y in 0..h {
         let a = y * n;
         let z = a + n;
         hit_row(
@@ -101,7 +98,6 @@ fn hit_rows(
             miss,
             misses,
         );
-        y += 1;
     }
 }
 
@@ -111,11 +107,11 @@ fn is_shared(hit: &[u8], miss: &[u8]) -> bool
     requires miss_value { cells_made miss.now ≡ true }
     ensures { result ≡ shared (shape_in hit.now) (shape_in miss.now) }
 {
-    let a = reader::element_at(hit);
-    let b = reader::element_at(miss);
-    let first = a.outline;
-    let second = b.outline;
-    overlap::offset_shared(first, &a.rows, second, &b.rows)
+    let first = reader::outline_at(hit);
+    let hits = reader::rows_at(hit);
+    let second = reader::outline_at(miss);
+    let misses = reader::rows_at(miss);
+    overlap::offset_shared(first, &hits, second, &misses)
 }
 
 // What two descriptors answer: hit before miss, then the overlap.
@@ -127,16 +123,16 @@ fn pair_answer(hit: &[u8], miss: &[u8]) -> Answer
 {
     let one = descriptor::well_made(hit);
     if !one {
-        return Answer::Shape;
+        return Err(Refusal::Shape);
     }
     let two = descriptor::well_made(miss);
     if !two {
-        return Answer::Shape;
+        return Err(Refusal::Shape);
     }
     if is_shared(hit, miss) {
-        return Answer::Overlap;
+        return Err(Refusal::Overlap);
     }
-    Answer::Done
+    Ok(())
 }
 
 // Hit-or-miss of the one-bit w x h picture in the source by the elements of two descriptors, into the target.
@@ -158,14 +154,11 @@ pub fn hit_or_miss(
 {
     let shape = pair_answer(hit, miss);
     let room = target.len();
-    let no = judge::refusal(Padding::Free, Depth::OneBit, w, h, source, shape, 0, room);
-    if answer::is_done(no) {
-        let a = reader::element_at(hit);
-        let b = reader::element_at(miss);
-        let first = a.outline;
-        let second = b.outline;
-        hit_rows(source, target, w, h, first, &a.rows, second, &b.rows);
-        return no;
-    }
-    no
+    judge::refusal(Padding::Free, Depth::OneBit, w, h, source, shape, 0, room)?;
+    let first = reader::outline_at(hit);
+    let hits = reader::rows_at(hit);
+    let second = reader::outline_at(miss);
+    let misses = reader::rows_at(miss);
+    hit_rows(source, target, w, h, first, &hits, second, &misses);
+    Ok(())
 }

@@ -1,7 +1,6 @@
 -- What C gets of a get is taken apart again into its number, the place and the length.
 use Prim.Native.Nat.{ℕ, ◌+◌, ◌*◌, ◌/◌, ◌^◌, ◌<◌}
 use mathlib.Core.Path.{◌≡◌, ap, ◌∙◌}
-use mathlib.Core.Bool.{Bool, true, false, cond}
 use mathlib.Core.List.{List}
 use native.Mathlib.Omega.{arith}
 use borrow.Fn.Kinds.{Dens, res_t, ended_of}
@@ -12,7 +11,6 @@ use lib.Dec.{lit<}
 use lib.ListN.{length}
 use Rattle.answer.specs.Answer.{plain}
 use Rattle.answer.specs.Refuse.{refuse}
-use Rattle.answer.specs.Packed.{packed}
 use Rattle.answer.proofs.Packed.{number_few, number_packed}
 use Rattle.share.specs.Maps.{Get}
 use Rattle.book.specs.declared.Party.{Party}

@@ -1,5 +1,6 @@
 // What a host program in C calls of the element book:
 // the start, and for display and export each its own calls.
+// C's interface names each party's calls apart (include/qiksavlut.h): each passes on to the one for both.
 // Nothing is asked of the host but that the buffers it lends do not overlap.
 // The promises are those of the library's own functions, with the answer packed.
 #![tactic(auto)]
@@ -12,21 +13,22 @@ ghost use Rattle.hostbook.specs.Get.{get_number};
 
 use book::Party;
 
-// The answer of a get, with the place and the length of the descriptor.
-fn pack_found(number: u32, place: usize, length: usize) -> u64
+// The place and the length of the descriptor: the answer of a get that is done is 0.
+fn pack_found(place: usize, length: usize) -> u64
     requires { (place < 2 ^ 16) × (length < 2 ^ 16) }
-    ensures { result ≡ number + place * 2 ^ 16 + length * 4294967296 }
+    ensures { result ≡ place * 2 ^ 16 + length * 4294967296 }
 {
-    (number as u64) + (place as u64) * 0x10000 + (length as u64) * 0x100000000
+    (place as u64) * 0x10000 + (length as u64) * 0x100000000
 }
 
 // A get of either party.
 fn get(book: &[u8], party: Party, number: u64) -> u64
     ensures { result ≡ get_number book.now party number }
 {
-    let found = book::find(book, party, number as usize);
-    let said = found.answer;
-    pack_found(answer::pack(said), found.place, found.length)
+    match book::find(book, party, number as usize) {
+        Ok(at) => pack_found(at.place, at.length),
+        Err(no) => u64::from(answer::pack(Err(no))),
+    }
 }
 
 #[unsafe(no_mangle)]

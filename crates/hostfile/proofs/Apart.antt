@@ -12,7 +12,6 @@ use lib.Dec.{lit<}
 use lib.ListN.{length}
 use Rattle.answer.specs.Answer.{plain, is_done}
 use Rattle.answer.specs.Refuse.{refuse}
-use Rattle.answer.specs.Packed.{packed}
 use Rattle.answer.proofs.Packed.{number_few, number_packed}
 use Rattle.ech.specs.File.{reported_kind, pings_of, bins_of}
 use Rattle.ech.specs.ReadWrite.{file_tests, read_answer}

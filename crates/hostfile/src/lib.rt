@@ -12,12 +12,12 @@ ghost use Rattle.hostfile.specs.Read.{read_number, pnm_number};
 
 use picture::Depth;
 
-// The answer of a read, with the kind and the size of the picture.
+// The answer of a read, with the kind and the size of the picture: 0 for each where it is refused.
 fn pack_read(number: u32, kind: usize, w: usize, h: usize) -> u64
     requires { (kind ≤ 3) × ((w ≤ most_pings) × (h ≤ most_bins)) }
     ensures { result ≡ number + kind * 2 ^ 8 + w * 2 ^ 16 + h * 4294967296 }
 {
-    (number as u64) + (kind as u64) * 0x100 + (w as u64) * 0x10000 + (h as u64) * 0x100000000
+    u64::from(number) + (kind as u64) * 0x100 + (w as u64) * 0x10000 + (h as u64) * 0x100000000
 }
 
 #[unsafe(no_mangle)]
@@ -25,9 +25,10 @@ pub extern "C" fn qik_ech_read(file: &[u8], target: &mut [u8]) -> u64
     ensures number { result ≡ read_number file.now target.old }
     ensures bytes { target.new ≡ read_target file.now target.old }
 {
-    let got = ech::read_ech(file, target);
-    let said = got.answer;
-    pack_read(answer::pack(said), got.kind, got.w, got.h)
+    match ech::read_ech(file, target) {
+        Ok(head) => pack_read(0, head.kind, head.w, head.h),
+        Err(why) => pack_read(answer::pack(Err(why)), 0, 0, 0),
+    }
 }
 
 #[unsafe(no_mangle)]
@@ -45,9 +46,10 @@ pub extern "C" fn qik_pbm_read(file: &[u8], target: &mut [u8]) -> u64
     ensures bytes { target.new
         ≡ files.read_target Depth.OneBit file.now target.old }
 {
-    let got = netpbm::read_pbm(file, target);
-    let said = got.answer;
-    pack_read(answer::pack(said), 0, got.w, got.h)
+    match netpbm::read_pbm(file, target) {
+        Ok(head) => pack_read(0, 0, head.w, head.h),
+        Err(why) => pack_read(answer::pack(Err(why)), 0, 0, 0),
+    }
 }
 
 #[unsafe(no_mangle)]
@@ -66,9 +68,10 @@ pub extern "C" fn qik_pgm_read(file: &[u8], target: &mut [u8]) -> u64
     ensures bytes { target.new
         ≡ files.read_target Depth.EightBit file.now target.old }
 {
-    let got = netpbm::read_pgm(file, target);
-    let said = got.answer;
-    pack_read(answer::pack(said), 0, got.w, got.h)
+    match netpbm::read_pgm(file, target) {
+        Ok(head) => pack_read(0, 0, head.w, head.h),
+        Err(why) => pack_read(answer::pack(Err(why)), 0, 0, 0),
+    }
 }
 
 #[unsafe(no_mangle)]

@@ -13,9 +13,9 @@ use lib.ListN.{length}
 use Rattle.answer.specs.Answer.{plain, is_done}
 use Rattle.answer.specs.Refuse.{refuse}
 use Rattle.answer.proofs.Packed.{number_few, number_packed}
-use Rattle.chainfor.specs.Find.{links_for, chain_for, find_tests, find_answer, gave_up}
+use Rattle.chainfor.specs.Find.{find_tests, find_answer, gave_up}
 use Rattle.chainfor.proofs.Finding.{chain_few}
-use Rattle.hostfind.specs.Find.{flag_of, links_told, bytes_told, find_number}
+use Rattle.hostfind.specs.Find.{links_told, bytes_told, find_number}
 use Rattle.hostfind.specs.Apart.{find_apart, find_told}
 use Rattle.hostfind.proofs.Packed.{flag_few}
 use Rattle.hostfind.proofs.qik_find_chain.Kinds as kinds

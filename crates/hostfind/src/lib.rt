@@ -5,14 +5,10 @@
 
 ghost use Rattle.std.specs.Prelude.{◌≡◌, ◌+◌, ◌*◌, ◌^◌, ◌<◌, length};
 ghost use Rattle.chainfor.specs.Find.{chain_left};
-ghost use Rattle.hostfind.specs.Find.{flag_of, find_number};
+ghost use Rattle.hostfind.specs.Find.{find_number};
 
-// 1 for true.
-fn flag(b: bool) -> usize
-    ensures { result ≡ flag_of b }
-{
-    if b { 1 } else { 0 }
-}
+use answer::Refusal;
+use chainfor::Unfound;
 
 // The number of an answer, with what comes with it: the links, or why there are none; and the bytes.
 fn pack_chain(number: u32, links: usize, bytes: usize) -> u64
@@ -27,8 +23,9 @@ pub extern "C" fn qik_find_chain(element: &[u8], chain: &mut [u8]) -> u64
     ensures number { result ≡ find_number element.now (length chain.old) }
     ensures bytes { chain.new ≡ chain_left element.now chain.old }
 {
-    let found = chainfor::find_chain(element, chain);
-    let said = found.answer;
-    let tried = flag(found.gave_up);
-    pack_chain(answer::pack(said), found.links + tried, found.bytes)
+    match chainfor::find_chain(element, chain) {
+        Ok(found) => pack_chain(answer::pack(Ok(())), found.links, found.bytes),
+        Err(Unfound::Refused(r)) => pack_chain(answer::pack(Err(r)), 0, 0),
+        Err(Unfound::GaveUp) => pack_chain(answer::pack(Err(Refusal::NoChain)), 1, 0),
+    }
 }

@@ -21,7 +21,8 @@ pub extern "C" fn qik_nesting(w: u64, h: u64, source: &[u8], list: &mut [u32]) -
     ensures numbers { OfRegions source.now w h (λ R.
         list.new ≡ nest_left R w h (length source.now) list.old) }
 {
-    let nested = nesting::nest(w as usize, h as usize, source, list);
-    let said = nested.answer;
-    pack_nested(answer::pack(said), nested.regions)
+    match nesting::nest(w as usize, h as usize, source, list) {
+        Ok(regions) => pack_nested(answer::pack(Ok(())), regions),
+        Err(refusal) => pack_nested(answer::pack(Err(refusal)), 0),
+    }
 }

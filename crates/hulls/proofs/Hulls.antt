@@ -9,7 +9,6 @@ use Rattle.element.specs.Record.{element_of}
 use Rattle.element.specs.Steps.Words.{word_byte, word_of, row_word, row_words}
 use Rattle.hulls.specs.declared.Extent.{Extent}
 use Rattle.hulls.specs.declared.Side.{Side}
-use Rattle.hulls.specs.declared.Hull.{Hull}
 use Rattle.hulls.specs.Extent.{extent_of}
 use Rattle.hulls.specs.Hull.{side_of, cut_of, own_row, hull_by, hull_of, word_in, rows_in, hull_in}
 

@@ -2,13 +2,8 @@
 -- for each public function, of its contract itself, as the prover reads it.
 use Rattle.basics.specs.Settles.{Settles}
 use Rattle.basics.proofs.Settled.{settled}
-use Rattle.hulls.proofs.less.Kinds as less-kinds
-use Rattle.hulls.proofs.less.Reads as less
 use Rattle.hulls.proofs.hull_of.Kinds as hull-of-kinds
 use Rattle.hulls.proofs.hull_of.Reads as hull-of
-
-pub less_settled : Settles 0 less-kinds.ps less-kinds.r less.Learnt
-less_settled κs a x y s t p q = settled p q
 
 pub hull_of_settled : Settles 0 hull-of-kinds.ps hull-of-kinds.r hull-of.Learnt
 hull_of_settled κs a x y s t p q = settled p q

@@ -48,13 +48,6 @@ pub struct Hull {
     pub own: [u8; MOST_LINK_CELLS],
 }
 
-// What is left of a without b.
-pub fn less(a: usize, b: usize) -> usize
-    ensures { result ≡ a - b }
-{
-    if b < a { a - b } else { 0 }
-}
-
 // The extent with the cell of a column and a row, where it is set.
 fn grow(b: Extent, word: RowWord, column: usize, row: usize) -> Extent
     requires { (column < most_cells) × (row < most_cells) }
@@ -62,14 +55,14 @@ fn grow(b: Extent, word: RowWord, column: usize, row: usize) -> Extent
 {
     if element::cell(word, Ping(column as u16)) {
         return Extent {
-            left: basics::lesser(b.left, column),
-            right: basics::greater(b.right, column),
-            top: basics::lesser(b.top, row),
-            bottom: basics::greater(b.bottom, row),
-            nearest: basics::lesser(b.nearest, column + row),
-            farthest: basics::greater(b.farthest, column + row),
-            lowest: basics::lesser(b.lowest, column + MOST_CELLS - row),
-            highest: basics::greater(b.highest, column + MOST_CELLS - row),
+            left: b.left.min(column),
+            right: b.right.max(column),
+            top: b.top.min(row),
+            bottom: b.bottom.max(row),
+            nearest: b.nearest.min(column + row),
+            farthest: b.farthest.max(column + row),
+            lowest: b.lowest.min(column + MOST_CELLS - row),
+            highest: b.highest.max(column + MOST_CELLS - row),
         };
     }
     b
@@ -81,10 +74,8 @@ fn grow_row(b: Extent, word: RowWord, w: usize, row: usize) -> Extent
     ensures { result ≡ row_extent b word row w }
 {
     let mut e = b;
-    let mut c = 0;
-    while c < w {
+    for c in 0..w {
         e = grow(e, word, c, row);
-        c += 1;
     }
     e
 }
@@ -104,10 +95,8 @@ fn extent_of(cells: &[RowWord; MOST_CELLS], w: usize, h: usize) -> Extent
         lowest: 2 * MOST_CELLS,
         highest: 0,
     };
-    let mut r = 0;
-    while r < h {
+    for r in 0..h {
         e = grow_row(e, cells[r], w, r);
-        r += 1;
     }
     e
 }
@@ -115,12 +104,12 @@ fn extent_of(cells: &[RowWord; MOST_CELLS], w: usize, h: usize) -> Extent
 fn side_of(origin: usize, first: usize, last: usize) -> Side
     ensures { result ≡ side_of origin first last }
 {
-    let start = basics::lesser(origin, first);
+    let start = origin.min(first);
     Side {
-        origin: less(origin, start),
-        first: less(first, start),
-        last: less(last, start),
-        span: less(basics::greater(origin, last), start),
+        origin: origin.saturating_sub(start),
+        first: first.saturating_sub(start),
+        last: last.saturating_sub(start),
+        span: origin.max(last).saturating_sub(start),
     }
 }
 
@@ -129,7 +118,7 @@ fn own_row(cells: &[RowWord; MOST_CELLS], left: usize, top: usize, r: usize) -> 
     requires { (left < most_cells) × ((top < most_cells) × (r < most_cells)) }
     ensures { result ≡ own_row cells.now left top r }
 {
-    let at = basics::lesser(top + r, MOST_CELLS - 1);
+    let at = (top + r).min(MOST_CELLS - 1);
     ((cells[at] << left) >> 56) as u8
 }
 
@@ -139,10 +128,8 @@ fn own_rows(cells: &[RowWord; MOST_CELLS], left: usize, top: usize) -> [u8; MOST
     ensures { result ≡ firsts (own_row cells.now left top) most_link_cells }
 {
     let mut rows = [0u8; MOST_LINK_CELLS];
-    let mut r = 0;
-    while r < MOST_LINK_CELLS {
+    for r in 0..MOST_LINK_CELLS {
         rows[r] = own_row(cells, left, top, r);
-        r += 1;
     }
     rows
 }
@@ -151,8 +138,8 @@ fn own_rows(cells: &[RowWord; MOST_CELLS], left: usize, top: usize) -> [u8; MOST
 fn cut_of(a: usize, b: usize, c: usize, d: usize) -> usize
     ensures { result ≡ cut_of a b c d }
 {
-    let sum = basics::lesser(a, 2 * MOST_CELLS) + basics::lesser(b, 2 * MOST_CELLS);
-    less(less(sum, c), d)
+    let sum = a.min(2 * MOST_CELLS) + b.min(2 * MOST_CELLS);
+    sum.saturating_sub(c).saturating_sub(d)
 }
 
 // What is measured of an element before the search.
@@ -169,8 +156,8 @@ pub fn hull_of(e: Element) -> Hull
     let column = p.0 as usize;
     let row = b.0 as usize;
     let x = extent_of(&cells, outline.w, outline.h);
-    let left = basics::lesser(basics::lesser(column, x.left), MOST_CELLS - 1);
-    let top = basics::lesser(basics::lesser(row, x.top), MOST_CELLS - 1);
+    let left = column.min(x.left).min(MOST_CELLS - 1);
+    let top = row.min(x.top).min(MOST_CELLS - 1);
     let own = own_rows(&cells, left, top);
     let across = side_of(column, x.left, x.right);
     let down = side_of(row, x.top, x.bottom);

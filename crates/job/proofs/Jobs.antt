@@ -5,47 +5,43 @@ use mathlib.Core.Bool.{Bool, true, false, not, cond}
 use mathlib.Core.List.{List}
 use native.Mathlib.Omega.{arith}
 use borrow.Author.Tests.{lt-ltb, le-ltb, ne_eqb}
-use lib.Dec.{lit<}
 use lib.ListN.{length, take, drop}
-use Rattle.answer.specs.declared.Answer.TheVariants.{Job}
+use Rattle.std.specs.Prelude.{Some, None, Err}
+use Rattle.std.proofs.lemmas.Option.{cond_some}
+use Rattle.answer.specs.declared.Refusal.TheVariants.{Job}
 use Rattle.answer.specs.declared.Told.{Told}
-use Rattle.answer.specs.Answer.{told, plain, is_done}
-use Rattle.answer.proofs.Lent.{not_done}
+use Rattle.answer.specs.Answer.{Answer, told, told_refusal, plain}
+use Rattle.answer.proofs.Variants.{err_undone}
 use Rattle.element.specs.Descriptor.{descriptor_length}
 use Rattle.work.specs.declared.Operation.{Operation}
 use Rattle.work.specs.declared.Outcome.{Outcome}
 use Rattle.work.specs.Work.{work_answer}
 use Rattle.work.specs.Prints.{refusal_of, over, Carried}
 use Rattle.work.proofs.Outcomes.{carried_refused}
-use Rattle.job.specs.declared.Asked.TheVariants.{For, Nothing}
 use Rattle.job.specs.Job.{most_job, letter_of, flag_of, rest_of, known_letter, operation_of, known_flag}
 use Rattle.job.specs.Job.{default_element, trailing_element, element_by, file_by, element_in, file_in}
 use Rattle.job.specs.Job.{job_answer, job_printed, job_picture, job_result, job_scratch}
 use Rattle.job.specs.Steps.Decided.{asked_of, flag_answer}
 
--- ---- the letter: an operation is asked for by a letter that is known, and is the letter's
-for_tells : (k : Bool) (o op : Operation) → For op ≡ cond k (For o) Nothing → (k ≡ true) × (op ≡ o)
-for_tells true o op e = (refl, cc)
-for_tells false o op e = (cc, cc)
-
-nothing_tells : (k : Bool) (o : Operation) → Nothing ≡ cond k (For o) Nothing → k ≡ false
-nothing_tells true o e = cc
-nothing_tells false o e = refl
+-- ---- the letter: where none is asked for, it is not known
+none_tells : (k : Bool) (o : Operation) → None ≡ cond k (Some o) None → k ≡ false
+none_tells true o e = cc
+none_tells false o e = refl
 
 -- ---- the flag
 pub length_few : (rest : List ℕ) (n : ℕ) → n ≡ descriptor_length rest → n ≤ length rest
 unfolding descriptor_length
 length_few rest n e = omega arith
 
-job_refused : is_done (told Job) ≡ false
-unfolding told
-job_refused = not_done 10 (lit< tt)
+-- a job that is refused as such
+abbrev no_job : Answer
+no_job = Err Job
 
 -- a refusal by JOB, printed
 abbrev pub Refused : Outcome → List ℕ → List ℕ → Type 0
 Refused back t t' =
-    ((back.answer ≡ Job) × (back.printed ≡ length (refusal_of (told Job) (length t))))
-    × (t' ≡ over (refusal_of (told Job) (length t)) t)
+    ((back.answer ≡ no_job) × (back.printed ≡ length (refusal_of (told no_job) (length t))))
+    × (t' ≡ over (refusal_of (told no_job) (length t)) t)
 
 module _ (op : Operation) (rest p r m t : List ℕ) where
   -- what the work gave for an element and a file, and what it gave by the flag
@@ -87,34 +83,34 @@ module _ (op : Operation) (rest p r m t : List ℕ) where
         flag_carried 1 (take n rest) f e refl (ap (λ k. take k rest) en) (ef ∙ ap (λ k. drop k rest) en) c
 
   module _ (flag : ℕ) (n0 : flag ≡ 0 → ⊥) (n1 : flag ≡ 1 → ⊥) (n2 : flag ≡ 2 → ⊥) where
-    flag_stops : told Job ≡ flag_answer flag rest p r m t
-    unfolding told flag_answer
+    flag_stops : told no_job ≡ flag_answer flag rest p r m t
+    unfolding told told_refusal flag_answer
     flag_stops = simp (ne_eqb flag 0 n0, ne_eqb flag 1 n1, ne_eqb flag 2 n2)
 
     pub flag_other : (back : Outcome) (t' : List ℕ) → Refused back t t' → Flagged flag back p r m t'
     flag_other back t' b =
-        carried_refused _ op _ _ p r m t Job flag_stops back t' job_refused b.0 b.1
+        carried_refused _ op _ _ p r m t no_job flag_stops back t' (err_undone no_job Job refl) b.0 b.1
 
 -- ---- the whole job
 module _ (job p r m t : List ℕ) where
   -- JOB's tests before the flag, one after another
   abbrev pub Stops : Type 0
-  Stops = told Job ≡ job_answer job p r m t
+  Stops = told no_job ≡ job_answer job p r m t
 
   pub too_short : length job < 2 → Stops
-  unfolding told job_answer
+  unfolding told told_refusal job_answer
   too_short l = simp (lt-ltb (length job) 2 l)
 
   module _ (some : 2 ≤ length job) where
     pub too_long : most_job < length job → Stops
-    unfolding told job_answer
+    unfolding told told_refusal job_answer
     too_long l = simp (le-ltb (length job) 2 some, lt-ltb most_job (length job) l)
 
     module _ (few : length job ≤ most_job) where
-      pub nothing_asked : Nothing ≡ asked_of (letter_of job) → Stops
-      unfolding told job_answer asked_of
+      pub nothing_asked : None ≡ asked_of (letter_of job) → Stops
+      unfolding told told_refusal job_answer asked_of
       nothing_asked e =
-          let k = nothing_tells (known_letter (letter_of job)) (operation_of (letter_of job)) e in
+          let k = none_tells (known_letter (letter_of job)) (operation_of (letter_of job)) e in
           simp (le-ltb (length job) 2 some, le-ltb most_job (length job) few, k)
 
       goes : known_letter (letter_of job) ≡ true
@@ -138,20 +134,20 @@ module _ (job p r m t : List ℕ) where
     whole c = (c.answer, (c.length_is, (c.picture, (c.result, (c.scratch, c.text)))))
 
     pub job_done : 2 ≤ length job → length job ≤ most_job → (op : Operation) (rest : List ℕ)
-        → For op ≡ asked_of (letter_of job) → rest ≡ rest_of job
+        → Some op ≡ asked_of (letter_of job) → rest ≡ rest_of job
         → Flagged op rest p r m t (flag_of job) back p' r' m' t' → Whole
     unfolding asked_of
     job_done some few op rest e er c =
-        let k = for_tells _ _ op e in
+        let k = cond_some _ _ op (sym e) in
         whole
         (subst (λ (a : Told). Carried a (operation_of (letter_of job))
         (element_in job) (file_in job) p r m t back p' r' m' t')
         (goes some few k.0)
-        (subst (λ (o : Operation). Flagged o (rest_of job) p r m t (flag_of job) back p' r' m' t') k.1
+        (subst (λ (o : Operation). Flagged o (rest_of job) p r m t (flag_of job) back p' r' m' t') (sym k.1)
         (subst (λ (l : List ℕ). Flagged op l p r m t (flag_of job) back p' r' m' t') er c)))
 
   pub job_not : Stops → (back : Outcome) (t' : List ℕ) → Refused back t t' → Whole back p r m t'
   job_not e back t' b =
       whole back p r m t'
       (carried_refused _ (operation_of (letter_of job)) (element_in job)
-      (file_in job) p r m t Job e back t' job_refused b.0 b.1)
+      (file_in job) p r m t no_job e back t' (err_undone no_job Job refl) b.0 b.1)

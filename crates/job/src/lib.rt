@@ -9,7 +9,7 @@ ghost use Rattle.job.specs.Job.{default_element, trailing_element, element_by, f
 ghost use Rattle.job.specs.Job.{job_printed, job_picture, job_result, job_scratch};
 ghost use Rattle.job.specs.Steps.Decided.{asked_of, flag_answer};
 
-use answer::Answer;
+use answer::Refusal;
 use work::{Operation, Outcome};
 
 // The most bytes of a job, which its picture's bytes never exceed;
@@ -18,7 +18,21 @@ pub const MOST_JOB: usize = 32768;
 
 pub const TEXT_ROOM: usize = 262400;
 
+// What a letter asks for, where there is such a letter: the job is refused where there is none.
+fn asked_of(letter: u8) -> Option<Operation>
+    ensures { result ≡ asked_of letter }
+{
+    match letter {
+        b'e' => Some(Operation::Erode),
+        b'd' => Some(Operation::Dilate),
+        b'o' => Some(Operation::Open),
+        b'c' => Some(Operation::Close),
+        _ => None,
+    }
+}
+
 // 31 cells, dx from 0 to 30, dy 0.
+#[tactic(auto, unfolding(crate::specs::Job::default_element))]
 fn default_element() -> [u8; 8]
     ensures { result ≡ default_element }
 {
@@ -26,29 +40,11 @@ fn default_element() -> [u8; 8]
 }
 
 // The default that was: 31 cells, dx from -30 to 0, dy 0.
+#[tactic(auto, unfolding(crate::specs::Job::trailing_element))]
 fn trailing_element() -> [u8; 8]
     ensures { result ≡ trailing_element }
 {
     [31, 1, 30, 0, 255, 255, 255, 254]
-}
-
-// What a letter asks for: nothing, where there is no such letter, and the job is then refused.
-#[derive(Clone, Copy)]
-enum Asked {
-    For(Operation),
-    Nothing,
-}
-
-fn asked_of(letter: u8) -> Asked
-    ensures { result ≡ asked_of letter }
-{
-    match letter {
-        b'e' => Asked::For(Operation::Erode),
-        b'd' => Asked::For(Operation::Dilate),
-        b'o' => Asked::For(Operation::Open),
-        b'c' => Asked::For(Operation::Close),
-        _ => Asked::Nothing,
-    }
 }
 
 // By the flag: the default element, a descriptor that ends where its own w and h say,
@@ -83,7 +79,7 @@ fn by_flag(
             let descriptor = trailing_element();
             work::carry_out(op, &descriptor, rest, source, res, scratch, text)
         }
-        _ => work::refused(Answer::Job, text),
+        _ => work::refused(Err(Refusal::Job), text),
     }
 }
 
@@ -119,14 +115,13 @@ pub fn run_job(
         text.old }
 {
     if job.len() < 2 {
-        return work::refused(Answer::Job, text);
+        return work::refused(Err(Refusal::Job), text);
     }
     if MOST_JOB < job.len() {
-        return work::refused(Answer::Job, text);
+        return work::refused(Err(Refusal::Job), text);
     }
-    let asked = asked_of(job[0]);
-    match asked {
-        Asked::For(op) => by_flag(op, job[1], &job[2..], picture, res, scratch, text),
-        Asked::Nothing => work::refused(Answer::Job, text),
+    match asked_of(job[0]) {
+        Some(op) => by_flag(op, job[1], &job[2..], picture, res, scratch, text),
+        None => work::refused(Err(Refusal::Job), text),
     }
 }

@@ -31,10 +31,8 @@ pub fn join_block(
     ensures { result ≡ joined_at packed grows a b.now at }
 {
     let mut c = a;
-    let mut i = 0;
-    while i < blocks::BLOCK {
+    for i in 0..blocks::BLOCK {
         c[i] = join(packed, grows, c[i], b[at + i]);
-        i += 1;
     }
     c
 }

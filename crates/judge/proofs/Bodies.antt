@@ -6,7 +6,7 @@ use mathlib.Core.List.{List}
 use native.Mathlib.Omega.{arith}
 use borrow.Author.Tests.{eq-eqb, le-ltb}
 use Rattle.answer.specs.declared.Told.{Told}
-use Rattle.answer.specs.declared.Answer.TheVariants.{Done}
+use Rattle.std.specs.Prelude.{Ok}
 use Rattle.answer.specs.Answer.{told, plain, is_done}
 use Rattle.answer.specs.Refuse.{refuse}
 use Rattle.answer.specs.Lent.{if_done}
@@ -21,7 +21,7 @@ use Rattle.judge.proofs.Admitted.{admitted, picture_numbered}
 module _ (padding : Padding) (depth : Depth) (w h : ℕ) (s : List ℕ) (before room : ℕ) where
   -- nothing stands between the picture and its room: the two lists are one
   waits : refuse (picture_tests padding depth w h s)
-      (if_done (told Done) (refuse (room_tests depth w h before room) (plain 0)))
+      (if_done (told (Ok (tt {0}))) (refuse (room_tests depth w h before room) (plain 0)))
       ≡ refuse (body_tests padding depth w h s before room) (plain 0)
   unfolding told
   waits =
@@ -31,13 +31,13 @@ module _ (padding : Padding) (depth : Depth) (w h : ℕ) (s : List ℕ) (before 
 
   pub body_judged : (a : Told)
       → a ≡ refuse (picture_tests padding depth w h s)
-      (if_done (told Done) (refuse (room_tests depth w h before room) (plain 0)))
+      (if_done (told (Ok (tt {0}))) (refuse (room_tests depth w h before room) (plain 0)))
       → a ≡ refuse (body_tests padding depth w h s before room) (plain 0)
   body_judged a e = e ∙ waits
 
   pub body_admitted : is_done (refuse (body_tests padding depth w h s before room) (plain 0)) ≡ true
       → Admitted padding depth w h s before room
-  body_admitted e = (admitted padding depth w h s (told Done) before room (ap is_done waits ∙ e)).0
+  body_admitted e = (admitted padding depth w h s (told (Ok (tt {0}))) before room (ap is_done waits ∙ e)).0
 
   pub body_numbered : Numbered (body_tests padding depth w h s before room)
   body_numbered = picture_numbered padding depth w h s _ (omega arith, tt)

@@ -10,7 +10,7 @@ ghost use Rattle.picture.specs.Frame.{Holds};
 ghost use Rattle.judge.specs.declared.Padding.TheVariants.{Free};
 ghost use Rattle.judge.specs.Tests.{passes, picture_tests, room_tests, shape_tests, element_tests};
 
-use answer::Answer;
+use answer::{Answer, Refusal};
 use picture::Depth;
 
 // The padding of a one-bit source is judged, or is free.
@@ -48,32 +48,30 @@ pub fn refusal(
         (if_done (told between) (refuse (room_tests depth w h before room) (plain 0))) }
 {
     if !picture::sized(w, h) {
-        return Answer::Size;
+        return Err(Refusal::Size);
     }
     let n = picture::picture_bytes(depth, w, h);
     if s.len() != n {
-        return Answer::Source;
+        return Err(Refusal::Source);
     }
     if !is_passed(padding, depth, s, w, h) {
-        return Answer::Pad;
+        return Err(Refusal::Pad);
     }
-    if !answer::is_done(between) {
-        return between;
-    }
+    between?;
     if room < before {
-        return Answer::Room;
+        return Err(Refusal::Room);
     }
     if room - before < n {
-        return Answer::Room;
+        return Err(Refusal::Room);
     }
-    Answer::Done
+    Ok(())
 }
 
 // What is found of a descriptor, well made or not: done, or SHAPE.
 pub fn shape_answer(made: bool) -> Answer
     ensures { told result ≡ refuse (shape_tests made) (plain 0) }
 {
-    if made { Answer::Done } else { Answer::Shape }
+    if made { Ok(()) } else { Err(Refusal::Shape) }
 }
 
 // The first refusal of an operation by one element, whose descriptor was found well made or not:

@@ -1,6 +1,6 @@
 -- The bytes that the loop makes are, at each point, one picture less the other.
-use Prim.Native.Nat.{ℕ, zero, suc, ◌+◌, ◌-◌, ◌^◌, ◌≤◌, ◌<◌, min}
-use mathlib.Core.Path.{◌≡◌, refl, sym, ap, ap₂, ◌∙◌, subst}
+use Prim.Native.Nat.{ℕ, zero, suc, ◌-◌, ◌^◌, ◌≤◌, ◌<◌, min}
+use mathlib.Core.Path.{◌≡◌, refl, sym, ap, ◌∙◌, subst}
 use mathlib.Core.List.{List, [], ◌∷◌, ◌++◌}
 use native.Mathlib.Omega.{arith}
 use native.Mathlib.Nat.{not-suc-le-zero, le_of_suc-le-suc, le_of_eq}
@@ -21,8 +21,7 @@ use Rattle.picture.proofs.Points.{written_same}
 use Rattle.picture.proofs.Sizes.{row_room, column_in}
 use Rattle.less.specs.declared.From.{From}
 use Rattle.less.specs.declared.From.TheVariants.{Target, Other}
-use Rattle.less.specs.declared.Sides.{Sides}
-use Rattle.less.specs.Steps.Sides.{eight_of, sides_of, less_byte, less_by, less_from}
+use Rattle.less.specs.Steps.Sides.{less_byte, less_by, less_from}
 
 -- ---- what stands past the bytes beside is as it was
 pub zip_past : (f : ℕ → ℕ → ℕ) (l bs : List ℕ) (m : ℕ) → length bs ≤ m → drop m (zip_in f l bs) ≡ drop m l
@@ -42,7 +41,7 @@ bit_less a b k hb hk =
     one_less m n hm hn = omega arith
 
 value_less : (depth : Depth) (a b x : ℕ) → b < 2 ^ 8
-    → value_in depth (less_byte (eight_of depth) a b) x ≡ value_in depth a x - value_in depth b x
+    → value_in depth (less_byte depth a b) x ≡ value_in depth a x - value_in depth b x
 unfolding value_in
 value_less OneBit a b x hb = bit_less a b (place x) hb (omega arith)
 value_less EightBit a b x hb = refl
@@ -54,16 +53,16 @@ module _ (depth : Depth) (from : From) (w h : ℕ) (s t : List ℕ) (bs : Bytes 
   beside = take (picture_bytes depth w h) s
 
   looped : List ℕ
-  looped = zip_in (less_by (sides_of depth from)) t beside
+  looped = zip_in (less_by depth from) t beside
 
   in_picture : (x y : ℕ) → x < w → y < h → byte_at depth w x y < picture_bytes depth w h
   in_picture x y hx hy = omega (arith, column_in depth x w hx, row_room (row_bytes depth w) hy)
 
   in_order : (x y : ℕ) (f : From)
       → value_in depth
-      (less_by (sides_of depth f) (get_or t (byte_at depth w x y) 0) (get_or s (byte_at depth w x y) 0)) x
+      (less_by depth f (get_or t (byte_at depth w x y) 0) (get_or s (byte_at depth w x y) 0)) x
       ≡ less_from f (value_at depth t w) (value_at depth s w) x y
-  unfolding less_by value_at
+  unfolding value_at
   in_order x y Target = value_less depth _ _ x (bs _)
   in_order x y Other = value_less depth _ _ x (bt _)
 
@@ -75,20 +74,20 @@ module _ (depth : Depth) (from : From) (w h : ℕ) (s t : List ℕ) (bs : Bytes 
       ap (λ n. value_in depth n x)
       (zip_get _ t beside (byte_at depth w x y) (omega arith)
       (subst (λ n. byte_at depth w x y < n) (sym (length-take-le (picture_bytes depth w h) s ls)) l))
-      ∙ ap (λ n. value_in depth (less_by (sides_of depth from) (get_or t (byte_at depth w x y) 0) n) x)
+      ∙ ap (λ n. value_in depth (less_by depth from (get_or t (byte_at depth w x y) 0) n) x)
       (get_or-take (picture_bytes depth w h) s (byte_at depth w x y) 0 l)
       ∙ in_order x y from
 
   -- the whole: the loop's bytes, with the padding cleared
-  pub subtracted : (k : Sides) (m : ℕ) (made after : List ℕ)
-      → k ≡ sides_of depth from → m ≡ picture_bytes depth w h
-      → made ≡ zip_in (less_by k) t (take m s)
+  pub subtracted : (m : ℕ) (made after : List ℕ)
+      → m ≡ picture_bytes depth w h
+      → made ≡ zip_in (less_by depth from) t (take m s)
       → after ≡ written depth (value_at depth made w) w h made
       → after ≡ written depth (less_from from (value_at depth t w) (value_at depth s w)) w h t
   unfolding written looped beside
-  subtracted k m made after ek em eu ea =
+  subtracted m made after em eu ea =
       let R = less_from from (value_at depth t w) (value_at depth s w) in
-      let e : made ≡ looped = eu ∙ ap₂ (λ (k : Sides) n. zip_in (less_by k) t (take n s)) ek em in
+      let e : made ≡ looped = eu ∙ ap (λ n. zip_in (less_by depth from) t (take n s)) em in
       ea
       ∙ written_same depth _ R w h made
       (λ x y hx hy. ap (λ l. value_at depth l w x y) e ∙ point_less x y hx hy)

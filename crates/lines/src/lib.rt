@@ -35,6 +35,7 @@ pub fn read_full<R: Read>(input: &mut R, b: &mut [u8]) -> Result<usize>
     ensures end { IfOk result (λ n. n < length b.new → IsAtEnd (R.remaining input.new)) }
 {
     let mut done = 0;
+    // a `while`: a read gives as many bytes as it likes, so that no range counts the reads
     while done < b.len() {
         let n = input.read(&mut b[done..])?;
         if n == 0 {
@@ -69,11 +70,9 @@ pub fn buffer_at(line: &[u8], at: usize, b: &mut [u8]) -> Found
         value: 0,
         next: m.next,
     };
-    let mut i = 0;
-    while i < k {
+    for i in 0..k {
         last = last_with(line, count, i, last);
         b[i] = (last.value % 0x100) as u8;
-        i += 1;
     }
     Found {
         value: k,

@@ -3,58 +3,14 @@
 // tools/cases makes the lines, says what their letters and numbers mean, and makes what must be printed.
 #![tactic(auto)]
 
-ghost use Rattle.std.specs.Prelude.{◌<◌, length};
-
-use answer::Answer;
 use std::io;
-
-fn number(rt: &impl Print, n: usize) -> io::Result<()> {
-    rt.print(n)
-}
-
-fn like_numbers(rt: &impl Print, n: usize, v: u32) -> io::Result<()> {
-    show::text(rt, b" ")?;
-    if 1 < n {
-        number(rt, n)?;
-        show::text(rt, b"*")?;
-    }
-    number(rt, v as usize)
-}
-
-// The numbers that are like the one at `from` end before i.
-fn ends(list: &[u32], from: usize, i: usize) -> bool
-    requires { from < length list.now }
-{
-    if i < list.len() {
-        return list[i] != list[from];
-    }
-    true
-}
-
-// A list: n*v is n numbers v.
-fn numbers(rt: &impl Print, list: &[u32]) -> io::Result<()> {
-    show::text(rt, b"list")?;
-    let mut from = 0;
-    let mut i = 0;
-    while i < list.len() {
-        i += 1;
-        if ends(list, from, i) {
-            like_numbers(rt, i - from, list[from])?;
-            from = i;
-        }
-    }
-    show::text(rt, b"\n")
-}
 
 // The call, and what came of it.
 fn run(rt: &impl Print, w: usize, h: usize, source: &[u8], list: &mut [u32]) -> io::Result<()> {
     let nested = nesting::nest(w, h, source, list);
-    let said: Answer = nested.answer;
-    show::answered(rt, said)?;
-    show::text(rt, b"regions ")?;
-    number(rt, nested.regions as usize)?;
-    show::text(rt, b"\n")?;
-    numbers(rt, &list[..])
+    show::answered(rt, nested.map(|_| ()))?;
+    println!(rt; "regions {}", nested.unwrap_or(0))?;
+    show::buffer(rt, b"list", list)
 }
 
 // The part of the list that is lent.
@@ -81,10 +37,10 @@ fn run_sizes(
     counts: &mut [u32],
     scratch: &mut [u8],
 ) -> io::Result<()> {
-    let said: Answer = spectrum::spectrum(w, h, source, counts, scratch);
-    show::answered(rt, said)?;
-    numbers(rt, &counts[..])?;
-    show::buffer(rt, b"scratch", &scratch[..])
+    let answer = spectrum::spectrum(w, h, source, counts, scratch);
+    show::answered(rt, answer)?;
+    show::buffer(rt, b"list", counts)?;
+    show::buffer(rt, b"scratch", scratch)
 }
 
 fn lend_counts(
@@ -118,7 +74,10 @@ fn sizes_job(
 }
 
 // A label, or a job and the list that it lends, full of sevens.
-fn job(rt: &impl Print, letter: u8, line: &[u8]) -> io::Result<()> {
+fn job(rt: &impl Print, line: &[u8]) -> io::Result<()> {
+    let Some(&letter) = line.first() else {
+        return Ok(());
+    };
     if letter == b'#' {
         return show::text(rt, line);
     }
@@ -148,11 +107,8 @@ fn job(rt: &impl Print, letter: u8, line: &[u8]) -> io::Result<()> {
 }
 
 fn each_line(rt: &impl Print, input: &[u8]) -> io::Result<()> {
-    let mut at = 0;
-    while at < input.len() {
-        let end = numbers::line_end(input, at);
-        job(rt, input[at], &input[at..end])?;
-        at = end;
+    for line in input.split_inclusive(|b| *b == b'\n') {
+        job(rt, line)?;
     }
     Ok(())
 }

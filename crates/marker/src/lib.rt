@@ -11,7 +11,7 @@ ghost use Rattle.grown.specs.Marker.{outside};
 ghost use Rattle.marker.specs.Tests.{grow_tests};
 ghost use Rattle.marker.specs.Steps.Bytes.{byte_within, row_within, rows_within, fits};
 
-use answer::Answer;
+use answer::{Answer, Refusal};
 use judge::Padding;
 use picture::Depth;
 
@@ -30,12 +30,10 @@ fn row_within(a: &[u8], b: &[u8], at: usize, n: usize, u: usize) -> bool
     ensures { result ≡ row_within a.now b.now at n u }
 {
     let last = n - 1;
-    let mut i = 0;
-    while i < last {
+    for i in 0..last {
         if !byte_within(a[at + i], b[at + i], 0) {
             return false;
         }
-        i += 1;
     }
     byte_within(a[at + last], b[at + last], u)
 }
@@ -46,12 +44,10 @@ fn rows_within(a: &[u8], b: &[u8], n: usize, u: usize, h: usize) -> bool
     requires n_in_bounds { (h * n ≤ length a.now) × (h * n ≤ length b.now) }
     ensures { result ≡ rows_within a.now b.now n u h }
 {
-    let mut y = 0;
-    while y < h {
+    for y in 0..h {
         if !row_within(a, b, y * n, n, u) {
             return false;
         }
-        y += 1;
     }
     true
 }
@@ -81,19 +77,19 @@ fn marker_answer(w: usize, h: usize, marker: &[u8], mask: &[u8]) -> Answer
         ) ∷ []) (plain 0) }
 {
     if !picture::sized(w, h) {
-        return Answer::Done;
+        return Ok(());
     }
     let n = picture::picture_bytes(Depth::OneBit, w, h);
     if marker.len() != n {
-        return Answer::Done;
+        return Ok(());
     }
     if mask.len() != n {
-        return Answer::Done;
+        return Ok(());
     }
     if lies_within(marker, mask, w, h) {
-        return Answer::Done;
+        return Ok(());
     }
-    Answer::Marker
+    Err(Refusal::Marker)
 }
 
 // The first refusal of a call with this marker and this mask, whose target has `room` bytes.

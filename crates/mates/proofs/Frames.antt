@@ -1,8 +1,8 @@
 -- Where a point of a frame lies.
-use Prim.Native.Nat.{ℕ, ◌+◌, ◌-◌, ◌*◌, ◌/◌, ◌%◌, ◌≤◌, ◌<◌}
+use Prim.Native.Nat.{ℕ, ◌+◌, ◌*◌, ◌/◌, ◌%◌, ◌≤◌, ◌<◌}
 use mathlib.Core.Path.{◌≡◌}
 use native.Mathlib.Omega.{arith}
-use native.Mathlib.Nat.{mod-lt, mod-le, div-lt_iff_lt-mul, div-add-mod', mul-le-mul_right}
+use native.Mathlib.Nat.{mod-lt, div-lt_iff_lt-mul, mul-le-mul_right}
 use Rattle.picture.specs.declared.Depth.TheVariants.{OneBit}
 use Rattle.picture.specs.Points.{Within}
 use Rattle.mates.specs.Steps.Framed.{Framed, Places}
@@ -22,22 +22,6 @@ module _ (n w h i : ℕ) (framed : Framed n w h) (i-in : i < h * w) where
         row = omega
             (arith, framed.long, mul-le-mul_right ((w + 7) / 8) row_in);
       }
-
--- not in the first row, not in the first column
-pub above : (i w : ℕ) → (i / w ≡ 0 → ⊥) → w ≤ i
-above i w ne = omega (arith, ne, div-add-mod' i w, mul-le-mul_right w (some (i / w) ne))
-  where
-    some : (y : ℕ) → (y ≡ 0 → ⊥) → 1 ≤ y
-    some y ne = omega arith
-
-pub before : (i w : ℕ) → (i % w ≡ 0 → ⊥) → 1 ≤ i
-before i w ne = omega (arith, ne, mod-le i w)
-
-pub above_left : (i w : ℕ) → (i / w ≡ 0 → ⊥) → (i % w ≡ 0 → ⊥) → w + 1 ≤ i
-above_left i w ne ne' = omega (arith, ne', div-add-mod' i w, mul-le-mul_right w (some (i / w) ne))
-  where
-    some : (y : ℕ) → (y ≡ 0 → ⊥) → 1 ≤ y
-    some y ne = omega arith
 
 -- a point's node, a mate that is no later, and the places for both
 pub unite_room : (len n w h i m : ℕ) → Places len w h → i < h * w → m ≤ i + 1 → n ≡ len

@@ -3,10 +3,9 @@ use Prim.Native.Nat.{ℕ, ◌+◌, ◌*◌, ◌<◌}
 use mathlib.Core.Path.{◌≡◌, refl, ap, ap₂, ◌∙◌}
 use mathlib.Core.List.{List}
 use native.Mathlib.Numerals.{add-one}
-use borrow.Author.Tests.{ne_eqb}
 use lib.ListN.{length, set}
 use Rattle.basics.proofs.Lists.{over_none, over_more}
-use Rattle.regions.specs.Steps.Union.{root_of, united, up_right_mate, mate_of, mates_united, point_united}
+use Rattle.regions.specs.Steps.Union.{root_of, united, mate_of, mates_united, point_united}
 use Rattle.regions.specs.Steps.Union.{united_to}
 use Rattle.regions.specs.Steps.Union.{flat_to}
 use Rattle.regions.specs.Steps.Union.{alone, labelled}
@@ -20,9 +19,6 @@ pub alone_more : (l u : List ℕ) (n : ℕ) → n < length l → u ≡ alone l n
 unfolding alone
 alone_more l u n h e = over_more (λ i. i) l u n n h e refl
 
-pub alone_all : (l u : List ℕ) (i n : ℕ) → i ≡ n → u ≡ alone l i → u ≡ alone l n
-alone_all l u i n e k = k ∙ ap (alone l) e
-
 pub flat_none : (l : List ℕ) → l ≡ flat_to l 0
 unfolding flat_to
 flat_none l = refl
@@ -30,9 +26,6 @@ flat_none l = refl
 pub flat_more : (l u : List ℕ) (n r : ℕ) → u ≡ flat_to l n → r ≡ root_of u n → set u n r ≡ flat_to l (n + 1)
 unfolding flat_to
 flat_more l u n r e k = rw (add-one n) (ap (λ r. set u n r) k ∙ ap (λ u. set u n (root_of u n)) e)
-
-pub flat_all : (l u : List ℕ) (i n : ℕ) → i ≡ n → u ≡ flat_to l i → u ≡ flat_to l n
-flat_all l u i n e k = k ∙ ap (flat_to l) e
 
 module _ (A : ℕ → ℕ) (w h : ℕ) (l : List ℕ) where
   pub points_none : l ≡ united_to A w h l 0
@@ -43,15 +36,6 @@ module _ (A : ℕ → ℕ) (w h : ℕ) (l : List ℕ) where
       → v ≡ united_to A w h l (n + 1)
   unfolding united_to
   points_more u v n e k = rw (add-one n) (k ∙ ap (λ u. point_united A w h u n) e)
-
-  pub points_all : (u : List ℕ) (i n : ℕ) → i ≡ n → u ≡ united_to A w h l i → u ≡ united_to A w h l n
-  points_all u i n e k = k ∙ ap (united_to A w h l) e
-
--- the last mate
-pub mate_rest : (A : ℕ → ℕ) (w h i k : ℕ) → (k ≡ 0 → ⊥) → (k ≡ 1 → ⊥) → (k ≡ 2 → ⊥) → (k ≡ 3 → ⊥)
-    → mate_of A w h i k ≡ up_right_mate A w i
-unfolding mate_of
-mate_rest A w h i k n0 n1 n2 n3 = simp (ne_eqb k 0 n0, ne_eqb k 1 n1, ne_eqb k 2 n2, ne_eqb k 3 n3)
 
 -- one point: its mates one after another
 module _ (A : ℕ → ℕ) (w h i : ℕ) (l : List ℕ) where

@@ -1,5 +1,6 @@
 // The nodes that a point of a one-bit picture is united with: like neighbours before it, what lies beyond.
 // Node 0 is what lies beyond the frame, node p + 1 is point p in row order.
+// Each function is its definition, test by test, once that unfolds.
 #![tactic(auto)]
 
 ghost use Rattle.std.specs.Prelude.{◌≡◌, ◌*◌, ◌<◌, length};
@@ -30,35 +31,26 @@ fn on_edge(x: usize, y: usize, w: usize, h: usize) -> bool
     requires { (x < 65536) × (y < 65536) }
     ensures { result ≡ edge_at x y w h }
 {
-    if x == 0 {
-        return true;
-    }
-    if x + 1 == w {
-        return true;
-    }
-    if y == 0 {
-        return true;
-    }
-    y + 1 == h
+    x == 0 || x + 1 == w || y == 0 || y + 1 == h
 }
 
-// The nodes that node i + 1 is united with, or itself where there is none: what lies beyond, where the point
-// is background on the edge.
+// The nodes that node i + 1 is united with. Where there is none it is the node itself, which changes nothing
+// when united, so that no caller asks whether there is one; `mate_of` and the theorem `mate_le` say it so.
+// What lies beyond, where the point is background on the edge.
+#[tactic(auto, unfolding(regions::specs::Steps::Union::outer_mate))]
 fn outer_mate(s: &[u8], w: usize, h: usize, i: usize) -> usize
     requires framed { Framed (length s.now) w h }
     requires i_bound { i < h * w }
     ensures { result ≡ outer_mate (point_of s.now w) w h i }
 {
-    if point(s, w, h, i) == 0 {
-        if on_edge(i % w, i / w, w, h) {
-            return 0;
-        }
-        return i + 1;
+    if point(s, w, h, i) == 0 && on_edge(i % w, i / w, w, h) {
+        return 0;
     }
     i + 1
 }
 
 // The point to the left, where it is like.
+#[tactic(auto, unfolding(regions::specs::Steps::Union::left_mate))]
 fn left_mate(s: &[u8], w: usize, h: usize, i: usize) -> usize
     requires framed { Framed (length s.now) w h }
     requires i_bound { i < h * w }
@@ -74,6 +66,7 @@ fn left_mate(s: &[u8], w: usize, h: usize, i: usize) -> usize
 }
 
 // The point above, where it is like.
+#[tactic(auto, unfolding(regions::specs::Steps::Union::up_mate))]
 fn up_mate(s: &[u8], w: usize, h: usize, i: usize) -> usize
     requires framed { Framed (length s.now) w h }
     requires i_bound { i < h * w }
@@ -89,18 +82,13 @@ fn up_mate(s: &[u8], w: usize, h: usize, i: usize) -> usize
 }
 
 // The point above and to the left, where both are echoes.
+#[tactic(auto, unfolding(regions::specs::Steps::Union::up_left_mate))]
 fn up_left_mate(s: &[u8], w: usize, h: usize, i: usize) -> usize
     requires framed { Framed (length s.now) w h }
     requires i_bound { i < h * w }
     ensures { result ≡ up_left_mate (point_of s.now w) w i }
 {
-    if i / w == 0 {
-        return i + 1;
-    }
-    if i % w == 0 {
-        return i + 1;
-    }
-    if point(s, w, h, i) == 0 {
+    if i / w == 0 || i % w == 0 || point(s, w, h, i) == 0 {
         return i + 1;
     }
     if point(s, w, h, i - w - 1) == point(s, w, h, i) {
@@ -110,18 +98,13 @@ fn up_left_mate(s: &[u8], w: usize, h: usize, i: usize) -> usize
 }
 
 // The point above and to the right, where both are echoes.
+#[tactic(auto, unfolding(regions::specs::Steps::Union::up_right_mate))]
 fn up_right_mate(s: &[u8], w: usize, h: usize, i: usize) -> usize
     requires framed { Framed (length s.now) w h }
     requires i_bound { i < h * w }
     ensures { result ≡ up_right_mate (point_of s.now w) w i }
 {
-    if i / w == 0 {
-        return i + 1;
-    }
-    if i % w + 1 == w {
-        return i + 1;
-    }
-    if point(s, w, h, i) == 0 {
+    if i / w == 0 || i % w + 1 == w || point(s, w, h, i) == 0 {
         return i + 1;
     }
     if point(s, w, h, i - w + 1) == point(s, w, h, i) {
@@ -131,6 +114,7 @@ fn up_right_mate(s: &[u8], w: usize, h: usize, i: usize) -> usize
 }
 
 // Mate k of point i, no later than the point itself.
+#[tactic(auto, unfolding(regions::specs::Steps::Union::mate_of))]
 pub fn mate(s: &[u8], w: usize, h: usize, i: usize, k: usize) -> usize
     requires framed { Framed (length s.now) w h }
     requires i_bound { i < h * w }

@@ -93,6 +93,7 @@ fn windows(x: Strip, n: usize) -> Strip
     }
     let mut v = x;
     let mut m = 1;
+    // m doubles, which no range counts
     while m + m <= n {
         v = joined(v, moved(v, m));
         m = m + m;
@@ -109,6 +110,7 @@ fn spread(v: Strip, x: Strip, grows: bool, word: u64, o: usize) -> Strip
 {
     let mut r = v;
     let mut c = words::next_cell(word, 0);
+    // the step depends on where the next run is found
     while c < 64 {
         let e = words::next_cell(!word, c);
         let p = packedline::cell_place(grows, o, packedline::end_cell(grows, c, e - c));
@@ -126,10 +128,8 @@ fn rows_of(over: bool, s: &[u8], w: usize, n: usize, from: usize, end: usize) ->
     ensures { OffWhere result (NoRow over s.now w n from end) }
 {
     let mut v = Strip { a: 0, b: 0, c: 0 };
-    let mut i = from;
-    while i < end {
+    for i in from..end {
         v = joined(v, row_at(over, s, i * n, w));
-        i += 1;
     }
     v
 }
@@ -139,21 +139,12 @@ fn same_end(words: &[RowWord], r: usize, h: usize) -> usize
     requires { (r < h) × (h ≤ length words.now) }
     ensures { SameRows words.now r h result }
 {
-    let mut e = r + 1;
-    while e < h {
+    for e in r + 1..h {
         if words[e] != words[r] {
             return e;
         }
-        e += 1;
     }
-    e
-}
-
-// How far a lies past b.
-fn past(a: usize, b: usize) -> usize
-    ensures { result ≡ a - b }
-{
-    if a < b { 0 } else { a - b }
+    h
 }
 
 // The first source row that rows r to e - 1 of an element lead to from row y.
@@ -162,9 +153,9 @@ fn first_row(grows: bool, y: usize, o: usize, r: usize, e: usize) -> usize
     ensures { result ≡ first_row grows y o r e }
 {
     if grows {
-        return past(y + o + 1, e);
+        return (y + o + 1).saturating_sub(e);
     }
-    past(y + r, o)
+    (y + r).saturating_sub(o)
 }
 
 // The row past the last of them, within the frame.
@@ -173,9 +164,9 @@ fn end_row(grows: bool, h: usize, y: usize, o: usize, r: usize, e: usize) -> usi
     ensures { result ≡ end_row grows h y o r e }
 {
     if grows {
-        return basics::lesser(past(y + o + 1, r), h);
+        return (y + o + 1).saturating_sub(r).min(h);
     }
-    basics::lesser(past(y + e, o), h)
+    (y + e).saturating_sub(o).min(h)
 }
 
 // Whether the source is turned over.
@@ -233,9 +224,9 @@ fn put(t: &mut [u8], x: Strip, over: bool, w: usize)
         (length t.old) }
 {
     let n = t.len();
-    let m = basics::lesser(n, 8);
+    let m = n.min(8);
     words::put_points(t, 0, m, over, x.a, w);
-    words::put_points(t, m, n, over, x.b, past(w, 64));
+    words::put_points(t, m, n, over, x.b, w.saturating_sub(64));
 }
 
 // Row y of the erosion, or the dilation, of the one-bit picture in s, as it is or turned over.
@@ -257,6 +248,7 @@ pub fn make_row(
     let n = t.len();
     let mut v = Strip { a: 0, b: 0, c: 0 };
     let mut r = 0;
+    // the step depends on how many rows are as row r
     while r < o.h {
         let e = same_end(words, r, o.h);
         v = add_rows(v, k, s, w, n, h, y, o, words[r], r, e);

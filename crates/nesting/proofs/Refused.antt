@@ -1,19 +1,18 @@
 -- The refusals: those known before the regions are and those known after are the tests in order.
-use Prim.Native.Nat.{ℕ, ◌+◌, ◌*◌, ◌≤◌, ◌<◌}
-use mathlib.Core.Path.{◌≡◌, refl, sym, ap, ap₂, ◌∙◌}
+use Prim.Native.Nat.{ℕ, ◌*◌, ◌≤◌, ◌<◌}
+use mathlib.Core.Path.{◌≡◌, sym, ap, ap₂, ◌∙◌}
 use mathlib.Core.Bool.{Bool, true, false, cond, not}
-use mathlib.Core.List.{List}
 use native.Mathlib.Omega.{arith}
 use native.Mathlib.Nat.{mul-le-mul}
 use borrow.Author.Tests.{lt-ltb, le-ltb, ltb-false, eqb-true, eq-eqb, ne_eqb, not-false}
 use lib.Dec.{eqb, ltb, lit<}
-use lib.ListN.{length}
-use Rattle.answer.specs.declared.Answer.{Answer}
+use Rattle.std.specs.Prelude.{Result, Ok, Err}
+use Rattle.answer.specs.declared.Refusal.{Refusal}
 use Rattle.answer.specs.declared.Told.{Told}
 use Rattle.answer.specs.Answer.{told, plain, is_done}
 use Rattle.answer.specs.Refuse.{refuse}
-use Rattle.answer.specs.Lent.{unless_refused}
 use Rattle.answer.proofs.Order.{Numbered, none_of}
+use Rattle.answer.proofs.Variants.{ok_done, err_undone}
 use Rattle.answer.proofs.Lent.{two_parts}
 use Rattle.picture.specs.declared.Depth.TheVariants.{OneBit}
 use Rattle.picture.specs.Frame.{sized_frame, picture_bytes}
@@ -21,8 +20,7 @@ use Rattle.picture.proofs.Sizes.{sized_tells}
 use Rattle.regions.specs.Limits.{most_points, most_regions}
 use Rattle.regions.specs.Listing.{regions_of}
 use Rattle.mates.specs.Steps.Framed.{Framed}
-use Rattle.nesting.specs.declared.Nested.{Nested}
-use Rattle.nesting.specs.Nesting.{frame_tests, region_tests, nest_tests, nest_answer, GivenBack}
+use Rattle.nesting.specs.Nesting.{frame_tests, region_tests, nest_tests, nest_answer, regions_in, GivenBack}
 
 frame_numbered : (w h n : ℕ) → Numbered (frame_tests w h n)
 frame_numbered w h n = (lit< tt, (lit< tt, (lit< tt, tt)))
@@ -72,16 +70,28 @@ module _ (R : ℕ → ℕ) (w h n len : ℕ) where
   going e = sym (ap (λ b. cond b after before) e) ∙ in_two
 
 -- ---- what comes back
-module _ (answered : Told) (count : ℕ) (a : Answer) (e : told a ≡ answered) where
-  pub back_refused : is_done (told a) ≡ false → GivenBack answered count (record { answer = a; regions = 0 })
-  back_refused q = record { answer = e; regions = sym (ap (λ b. cond b count 0) (ap is_done (sym e) ∙ q)) }
+module _ (answered : Told) (count : ℕ) where
+  pub back_refused : (r : Result ℕ Refusal) (s : Refusal) → r ≡ Err s → told r ≡ answered
+      → GivenBack answered count r
+  back_refused r s p e =
+      record {
+        answer = e;
+        regions = ap regions_in p
+            ∙ sym (ap (λ b. cond b count 0) (ap is_done (sym e) ∙ err_undone r s p));
+      }
 
-  pub back_done : (m : ℕ) → m ≡ count → is_done (told a) ≡ true
-      → GivenBack answered count (record { answer = a; regions = m })
-  back_done m k q =
-      record { answer = e; regions = k ∙ sym (ap (λ b. cond b count 0) (ap is_done (sym e) ∙ q)) }
+  -- where a call before it, that gives nothing back, was done
+  pub back_done : {A : Type 0} (a : Result A Refusal) (x : A) (m : ℕ) → a ≡ Ok x → told a ≡ answered
+      → m ≡ count → GivenBack answered count (Ok m)
+  unfolding told
+  back_done {A = A} a x m p e k =
+      record {
+        answer = sym (ap (λ (a : Result A Refusal). told a) p) ∙ e;
+        regions = k ∙ sym (ap (λ b. cond b count 0) (ap is_done (sym e) ∙ ok_done a x p));
+      }
 
-pub back_as : (s t : Told) (j k : ℕ) (r : Nested) → s ≡ t → j ≡ k → GivenBack s j r → GivenBack t k r
+pub back_as : (s t : Told) (j k : ℕ) (r : Result ℕ Refusal) → s ≡ t → j ≡ k → GivenBack s j r
+    → GivenBack t k r
 back_as s t j k r e q g =
     record {
       answer = g.answer ∙ e;

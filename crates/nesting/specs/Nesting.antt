@@ -1,6 +1,8 @@
 -- Request (xiv), what a call gives: its answer, the number of regions, and what the lent list holds after it.
 -- R gives each node the first of its region, n bytes and `len` numbers are lent.
 use Rattle.std.specs.Prelude.{ℕ, ◌*◌, ◌≡◌, cond, not, List, [], ◌∷◌, ◌++◌, eqb, ltb, length, drop}
+use Rattle.std.specs.Prelude.{Result, Ok, Err}
+use Rattle.answer.specs.declared.Refusal.{Refusal}
 use Rattle.answer.specs.declared.Told.{Told}
 use Rattle.answer.specs.Answer.{told, plain, is_done}
 use Rattle.answer.specs.Refuse.{Test, refuse}
@@ -10,7 +12,6 @@ use Rattle.picture.specs.Frame.{sized_frame, picture_bytes}
 use Rattle.regions.specs.Limits.{most_points, most_regions}
 use Rattle.regions.specs.Regions.{point_of, Firsts}
 use Rattle.regions.specs.Listing.{listing, regions_of}
-use Rattle.nesting.specs.declared.Nested.{Nested}
 
 -- SIZE, SOURCE, and NEST for a picture of too many points
 abbrev pub frame_tests : ℕ → ℕ → ℕ → List Test
@@ -29,10 +30,15 @@ nest_tests R w h n len = frame_tests w h n ++ region_tests (regions_of R (h * w)
 abbrev pub nest_answer : (ℕ → ℕ) → ℕ → ℕ → ℕ → ℕ → Told
 nest_answer R w h n len = refuse (nest_tests R w h n len) (plain 0)
 
--- what comes back: the answer, and how many regions there are, 0 where refused
-pub record GivenBack (answered : Told) (count : ℕ) (r : Nested) : Type 0 where
-  pub answer : told r.answer ≡ answered
-  pub regions : r.regions ≡ cond (is_done answered) count 0
+-- how many regions there are, 0 where refused
+abbrev pub regions_in : Result ℕ Refusal → ℕ
+regions_in (Ok n) = n
+regions_in (Err r) = 0
+
+-- what comes back: the answer, and how many regions there are
+pub record GivenBack (answered : Told) (count : ℕ) (r : Result ℕ Refusal) : Type 0 where
+  pub answer : told r ≡ answered
+  pub regions : regions_in r ≡ cond (is_done answered) count 0
 
 -- the list with the listing in it, and its further numbers
 abbrev pub listed : (ℕ → ℕ) → ℕ → ℕ → List ℕ → List ℕ

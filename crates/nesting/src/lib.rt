@@ -17,7 +17,7 @@ ghost use Rattle.nesting.specs.Nesting.{listed, nest_left, OfRegions};
 ghost use Rattle.nesting.specs.Steps.Written.{put};
 ghost use Rattle.nesting.specs.Steps.Tree.{at, Labelled, Tree, Next};
 
-use answer::Answer;
+use answer::{Answer, Refusal};
 use picture::Depth;
 
 // The most points of a picture whose regions are listed, and the most regions, the outer one counted.
@@ -25,19 +25,12 @@ const MOST_POINTS: usize = 16384;
 
 const MOST_REGIONS: usize = 255;
 
-// What comes back: the answer, and how many regions there are, 0 where refused.
-#[derive(Clone, Copy)]
-pub struct Nested {
-    pub answer: Answer,
-    pub regions: u32,
-}
-
 // Element i of a list of nodes.
 fn node(nodes: &[u16], i: usize) -> usize
     requires { i < length nodes.now }
     ensures { result ≡ at nodes.now i }
 {
-    nodes[i] as usize
+    usize::from(nodes[i])
 }
 
 // 1 where node i belongs to region r, and else 0.
@@ -54,10 +47,8 @@ fn count(labels: &[u16], n: usize, r: usize) -> usize
     ensures { result ≡ count_of (at labels.now) r n }
 {
     let mut k = 0;
-    let mut i = 0;
-    while i < n {
+    for i in 0..n {
         k = k + belongs(labels, i + 1, r);
-        i += 1;
     }
     k
 }
@@ -68,10 +59,8 @@ fn inner_regions(labels: &[u16], n: usize) -> usize
     ensures { result ≡ length (inner_of (at labels.now) n) }
 {
     let mut k = 0;
-    let mut i = 0;
-    while i < n {
+    for i in 0..n {
         k = k + belongs(labels, i + 1, i + 1);
-        i += 1;
     }
     k
 }
@@ -84,11 +73,9 @@ fn gather(labels: &[u16], n: usize, inner: &mut [u16])
         ≡ inner_of (at labels.now) n }
 {
     let mut k = 0;
-    let mut i = 0;
-    while i < n {
+    for i in 0..n {
         inner[k] = (i + 1) as u16;
         k = k + belongs(labels, i + 1, i + 1);
-        i += 1;
     }
 }
 
@@ -119,10 +106,9 @@ fn note(list: &mut [u32], m: usize, d: usize, c: usize)
     list[a + 1] = c as u32;
 }
 
-// Region r, of echoes, and all that is inside it go to the list; m regions are listed before,
+// Region r and all that is inside it go to the list; m regions are listed before,
 // and the number of those listed after comes back.
-#[cycle(list_echo_list_hole)]
-fn list_echo(
+fn list_region(
     labels: &[u16],
     inner: &[u16],
     w: usize,
@@ -141,45 +127,11 @@ fn list_echo(
     let points = count(labels, n, r);
     note(list, m, d, points);
     let mut next = m + 1;
-    let mut k = 0;
-    while k < inner.len() {
+    for k in 0..inner.len() {
         let child = node(inner, k);
         if parent(labels, w, child) == r {
-            next = list_hole(labels, inner, w, n, list, next, child, d + 1);
+            next = list_region(labels, inner, w, n, list, next, child, d + 1);
         }
-        k += 1;
-    }
-    next
-}
-
-// Region r, of background, in the same way.
-#[cycle(list_echo_list_hole)]
-fn list_hole(
-    labels: &[u16],
-    inner: &[u16],
-    w: usize,
-    n: usize,
-    list: &mut [u32],
-    m: usize,
-    r: usize,
-    d: usize,
-) -> usize
-    requires tree { Tree labels.now inner.now w n }
-    requires next { Next labels.now inner.now w n (length list.old) m r d }
-    ensures value { result ≡ m + length (order_from (at labels.now) w n r d) }
-    ensures list_after { list.new
-        ≡ put list.old (2 * m) (lines_from (at labels.now) w n r d) }
-{
-    let points = count(labels, n, r);
-    note(list, m, d, points);
-    let mut next = m + 1;
-    let mut k = 0;
-    while k < inner.len() {
-        let child = node(inner, k);
-        if parent(labels, w, child) == r {
-            next = list_echo(labels, inner, w, n, list, next, child, d + 1);
-        }
-        k += 1;
     }
     next
 }
@@ -193,7 +145,7 @@ fn list_all(labels: &[u16], w: usize, n: usize, k: usize, list: &mut [u32])
 {
     let mut inner = [0u16; 255];
     gather(labels, n, &mut inner);
-    list_hole(labels, &inner[..k], w, n, list, 0, 0, 0);
+    list_region(labels, &inner[..k], w, n, list, 0, 0, 0);
 }
 
 // The refusal that is known before the regions are.
@@ -201,15 +153,15 @@ fn frame_refusal(w: usize, h: usize, n: usize) -> Answer
     ensures { told result ≡ refuse (frame_tests w h n) (plain 0) }
 {
     if !picture::sized(w, h) {
-        return Answer::Size;
+        return Err(Refusal::Size);
     }
     if n != picture::picture_bytes(Depth::OneBit, w, h) {
-        return Answer::Source;
+        return Err(Refusal::Source);
     }
     if MOST_POINTS < h * w {
-        return Answer::Nest;
+        return Err(Refusal::Nest);
     }
-    Answer::Done
+    Ok(())
 }
 
 // The refusal that needs them: so many regions, and places for len numbers.
@@ -218,16 +170,16 @@ fn region_refusal(regions: usize, len: usize) -> Answer
     ensures { told result ≡ refuse (region_tests regions len) (plain 0) }
 {
     if MOST_REGIONS < regions {
-        return Answer::Nest;
+        return Err(Refusal::Nest);
     }
     if len < 2 * regions {
-        return Answer::Room;
+        return Err(Refusal::Room);
     }
-    Answer::Done
+    Ok(())
 }
 
-// The regions of a picture that is labelled, listed.
-fn list_labels(labels: &[u16], w: usize, n: usize, list: &mut [u32]) -> Nested
+// The regions of a picture that is labelled, listed. How many there are.
+fn list_labels(labels: &[u16], w: usize, n: usize, list: &mut [u32]) -> Result<u32, Refusal>
     requires { Labelled labels.now w n }
     ensures given_back { GivenBack
         (refuse (region_tests (regions_of (at labels.now) n) (length list.old)) (plain 0))
@@ -237,36 +189,21 @@ fn list_labels(labels: &[u16], w: usize, n: usize, list: &mut [u32]) -> Nested
         list.old (listed (at labels.now) w n list.old) }
 {
     let k = inner_regions(labels, n);
-    let no = region_refusal(k + 1, list.len());
-    if answer::is_done(no) {
-        list_all(labels, w, n, k, list);
-        return Nested {
-            answer: no,
-            regions: (k + 1) as u32,
-        };
-    }
-    Nested {
-        answer: no,
-        regions: 0,
-    }
+    region_refusal(k + 1, list.len())?;
+    list_all(labels, w, n, k, list);
+    Ok((k + 1) as u32)
 }
 
-// The regions of a one-bit picture, listed: of each its depth and its points.
-pub fn nest(w: usize, h: usize, source: &[u8], list: &mut [u32]) -> Nested
+// The regions of a one-bit picture, listed: of each its depth and its points. How many there are.
+pub fn nest(w: usize, h: usize, source: &[u8], list: &mut [u32]) -> Result<u32, Refusal>
     ensures back { OfRegions source.now w h (λ R. GivenBack
         (nest_answer R w h (length source.now) (length list.old))
         (regions_of R (h * w)) result) }
     ensures numbers { OfRegions source.now w h (λ R. list.new
         ≡ nest_left R w h (length source.now) list.old) }
 {
-    let no = frame_refusal(w, h, source.len());
-    if answer::is_done(no) {
-        let mut labels = [0u16; 16385];
-        labels::label(source, w, h, &mut labels);
-        return list_labels(&labels, w, h * w, list);
-    }
-    Nested {
-        answer: no,
-        regions: 0,
-    }
+    frame_refusal(w, h, source.len())?;
+    let mut labels = [0u16; 16385];
+    labels::label(source, w, h, &mut labels);
+    list_labels(&labels, w, h * w, list)
 }

@@ -1,12 +1,15 @@
 -- A number that is kept answers as the number itself does: it is judged too large where that is.
-use Prim.Native.Nat.{ℕ, ◌≤◌, ◌<◌}
-use mathlib.Core.Path.{◌≡◌, refl, sym, ap, ap₂, ◌∙◌, subst}
-use mathlib.Core.Bool.{Bool, true, false, not, cond, ◌&&◌}
+use Prim.Native.Nat.{ℕ, ◌<◌}
+use mathlib.Core.Path.{◌≡◌, refl, sym, ap, ap₂, ◌∙◌}
+use mathlib.Core.Bool.{Bool, true, false, ◌&&◌}
 use mathlib.Core.List.{List}
 use native.Mathlib.Omega.{arith}
 use borrow.Author.Tests.{le-leb, lt-leb, leb-true, leb-false, eq-eqb, ne_eqb, eqb-true, eqb-false}
 use lib.Dec.{leb, eqb}
+use Rattle.std.specs.Prelude.{Result, Ok, Err}
+use Rattle.answer.specs.declared.Refusal.{Refusal}
 use Rattle.answer.specs.Answer.{plain, is_done}
+use Rattle.answer.proofs.Variants.{ok_done}
 use Rattle.answer.specs.Refuse.{refuse}
 use Rattle.picture.specs.declared.Depth.{Depth}
 use Rattle.picture.specs.declared.Depth.TheVariants.{OneBit, EightBit}
@@ -76,22 +79,15 @@ module _ (depth : Depth) (w h : ℕ) (s : List ℕ) (room : ℕ) where
   unfolding raster_answer
   sized_done e = (body_admitted Free depth w h s 0 room e).sized
 
-  -- where it is done the numbers were those of the file, and else they are 0
-  pub back_held : (r : Header) → GivenBack (raster_answer depth (held w) (held h) s room) (held w) (held h) r
+  -- where it is done the numbers are those of the file
+  pub back_held : (r : Result Header Refusal)
+      → GivenBack (raster_answer depth (held w) (held h) s room) (held w) (held h) r
       → GivenBack (raster_answer depth w h s room) w h r
-  back_held r g = record {
-    answer = g.answer ∙ answer_held;
-    pings = g.pings ∙ given w same_pings;
-    bins = g.bins ∙ given h same_bins;
-  }
-    where
-      given : (n : ℕ) → (sized_frame w h ≡ true → held n ≡ n)
-          → cond (is_done (raster_answer depth (held w) (held h) s room)) (held n) 0
-          ≡ cond (is_done (raster_answer depth w h s room)) n 0
-      given n q =
-          ap (λ a. cond (is_done a) (held n) 0) answer_held
-          ∙ by (is_done (raster_answer depth w h s room)) refl
-        where
-          by : (t : Bool) → is_done (raster_answer depth w h s room) ≡ t → cond t (held n) 0 ≡ cond t n 0
-          by true e = q (sized_done e)
-          by false e = refl
+  back_held (Err why) g = record { answer = g.answer ∙ answer_held; pings = tt; bins = tt }
+  back_held (Ok x) g =
+      let done = ap is_done (sym (g.answer ∙ answer_held)) ∙ ok_done (Ok x) x refl in
+      record {
+        answer = g.answer ∙ answer_held;
+        pings = g.pings ∙ same_pings (sized_done done);
+        bins = g.bins ∙ same_bins (sized_done done);
+      }

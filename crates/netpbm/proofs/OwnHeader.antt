@@ -1,17 +1,17 @@
 -- The header that we write says what it was written with.
 use Prim.Native.Nat.{ℕ, ◌+◌, ◌-◌, ◌*◌, ◌/◌, ◌%◌, ◌<◌}
-use mathlib.Core.Path.{◌≡◌, refl, sym, ap, ◌∙◌}
-use mathlib.Core.Bool.{Bool, true, false, cond, ◌||◌, ◌&&◌}
+use mathlib.Core.Path.{◌≡◌, refl, ap, ◌∙◌}
+use mathlib.Core.Bool.{Bool, true, false, cond}
 use mathlib.Core.List.{List, [], ◌∷◌, ◌++◌, append_assoc}
 use native.Mathlib.Omega.{arith}
-use borrow.Author.Tests.{ne_eqb, le-leb, lt-leb, ltb-true, ltb-false}
-use lib.Dec.{eqb, leb, ltb}
+use borrow.Author.Tests.{ne_eqb, le-leb, lt-leb, ltb-true}
+use lib.Dec.{eqb, ltb}
 use Rattle.digits.specs.Decimal.{digit, decimal}
 use Rattle.picture.specs.declared.Depth.{Depth}
 use Rattle.picture.specs.declared.Depth.TheVariants.{OneBit, EightBit}
 use Rattle.pnmheader.specs.declared.Scan.{Scan}
 use Rattle.pnmheader.specs.Header.{is_white, is_digit, after_digit, part_after, number_after, begun, step}
-use Rattle.pnmheader.specs.Header.{Head, ended, scan, single_part, header}
+use Rattle.pnmheader.specs.Header.{ended, scan, single_part, header}
 use Rattle.netpbm.specs.File.{space, line_feed, tail_of, head_of, maximum_right}
 
 -- a header at the part, with no comment open

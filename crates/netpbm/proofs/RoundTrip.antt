@@ -1,6 +1,6 @@
 -- A file written and read gives the same picture;
 -- an accepted file in our own header form, with row padding 0, read and written gives the same bytes.
-use Prim.Native.Nat.{ℕ, ◌+◌, ◌≤◌, ◌<◌}
+use Prim.Native.Nat.{ℕ, ◌≤◌}
 use mathlib.Core.Path.{◌≡◌, refl, sym, ap, ap₂, ◌∙◌, subst}
 use mathlib.Core.Bool.{true, not, cond, ◌&&◌}
 use mathlib.Core.List.{List, ◌∷◌, ◌++◌}
@@ -26,7 +26,6 @@ use Rattle.pnmheader.specs.Header.{Head, header}
 use Rattle.netpbm.specs.File.{maximum_right, formed, pings_of, bins_of, raster_of, head_of, file_of}
 use Rattle.netpbm.specs.ReadWrite.{read_answer, read_target, write_answer, write_target}
 use Rattle.netpbm.proofs.Reading.{file_admitted}
-use Rattle.netpbm.proofs.Writing.{file_long}
 use Rattle.netpbm.proofs.OwnHeader.{own_maximum, own_header, own_right}
 
 -- what a write that is done tells

@@ -1,6 +1,6 @@
 -- What the writer leaves: head, body and the further bytes.
-use Prim.Native.Nat.{ℕ, ◌+◌, ◌-◌, ◌≤◌}
-use mathlib.Core.Path.{◌≡◌, refl, sym, ap, ap₂, ◌∙◌}
+use Prim.Native.Nat.{ℕ, ◌+◌, ◌-◌}
+use mathlib.Core.Path.{◌≡◌, sym, ap, ap₂, ◌∙◌}
 use mathlib.Core.Bool.{true, false}
 use mathlib.Core.List.{List, [], ◌∷◌, ◌++◌, flatten, append_assoc, append-nil}
 use native.Mathlib.Omega.{arith}
@@ -8,8 +8,7 @@ use borrow.Rule.Slice.PartMut.{put_mid}
 use lib.ListN.{length, take, drop, length-append, length-drop, drop_of_length-le}
 use lib.Seq.{take_at, drop_at, drop-drop}
 use Rattle.basics.proofs.Lists.{tail_is}
-use Rattle.answer.specs.declared.Answer.{Answer}
-use Rattle.answer.specs.Answer.{told, plain, is_done}
+use Rattle.answer.specs.Answer.{Answer, told, plain, is_done}
 use Rattle.answer.specs.Refuse.{refuse}
 use Rattle.answer.proofs.Lent.{kept_by, made_by_lem}
 use Rattle.digits.specs.Decimal.{decimal}

@@ -1,7 +1,8 @@
 -- What the readers and the writers answer, and what they leave in the target.
-use Rattle.std.specs.Prelude.{ℕ, ◌+◌, not, cond, List, ◌∷◌, ◌++◌, ◌≡◌, length, drop}
+use Rattle.std.specs.Prelude.{ℕ, not, List, ◌∷◌, ◌++◌, ◌≡◌, length, drop, Result, IfOk}
 use Rattle.answer.specs.declared.Told.{Told}
-use Rattle.answer.specs.Answer.{told, plain, is_done}
+use Rattle.answer.specs.declared.Refusal.{Refusal}
+use Rattle.answer.specs.Answer.{told, plain}
 use Rattle.answer.specs.Refuse.{Test, refuse}
 use Rattle.answer.specs.Lent.{unless_refused}
 use Rattle.picture.specs.declared.Depth.{Depth}
@@ -28,11 +29,12 @@ read_target depth f t =
     (written depth (value_at depth (raster_of depth f) (pings_of depth f)) (pings_of depth f)
     (bins_of depth f) t)
 
--- what a read gives back: the answer, and W and H, or 0 for each where it is refused
-pub record GivenBack (answer-told : Told) (pings-read bins-read : ℕ) (r : Header) : Type 0 where
-  pub answer : told r.answer ≡ answer-told
-  pub pings : r.w ≡ cond (is_done answer-told) pings-read 0
-  pub bins : r.h ≡ cond (is_done answer-told) bins-read 0
+-- what a read gives back: the answer, and W and H where it is done; a refusal gives none
+pub record GivenBack (answer-told : Told) (pings-read bins-read : ℕ)
+    (r : Result Header Refusal) : Type 0 where
+  pub answer : told r ≡ answer-told
+  pub pings : IfOk r (λ head. head.w ≡ pings-read)
+  pub bins : IfOk r (λ head. head.h ≡ bins-read)
 
 -- the writers meet 1, 2, 8: what stands in the source's padding is free
 abbrev pub write_tests : Depth → ℕ → ℕ → List ℕ → ℕ → List Test

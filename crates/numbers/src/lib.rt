@@ -21,24 +21,28 @@ pub struct Found {
 fn with_digit(v: usize, digit: u8) -> usize
     ensures { result ≡ more v digit }
 {
-    std::num::wrapping_add_usize(v % 1844674407370955162 * 10, (digit % 16) as usize)
+    std::num::wrapping_add_usize(v % 1844674407370955162 * 10, usize::from(digit % 16))
 }
 
 // The number at a place: its digits, and the byte below them that ends it. 0 where the line has ended.
 pub fn number_at(line: &[u8], at: usize) -> Found
     ensures { result ≡ number_at line.now at }
 {
-    let mut i = at;
     let mut v = 0;
-    while i < line.len() {
+    for i in at..line.len() {
         let b = line[i];
-        i += 1;
         if b < FIRST_DIGIT {
-            return Found { value: v, next: i };
+            return Found {
+                value: v,
+                next: i + 1,
+            };
         }
         v = with_digit(v, b);
     }
-    Found { value: v, next: i }
+    Found {
+        value: v,
+        next: at.max(line.len()),
+    }
 }
 
 // Where a line ends: after its line feed, or with the input.
@@ -47,13 +51,10 @@ pub fn line_end(input: &[u8], at: usize) -> usize
     ensures value { result ≡ line_end input.now at }
     ensures lower_bound { (at < result) × (result ≤ length input.now) }
 {
-    let mut i = at;
-    while i < input.len() {
-        let b = input[i];
-        i += 1;
-        if b == LINE_FEED {
-            return i;
+    for i in at..input.len() {
+        if input[i] == LINE_FEED {
+            return i + 1;
         }
     }
-    i
+    input.len()
 }

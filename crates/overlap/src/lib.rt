@@ -34,12 +34,10 @@ fn row_shared(word: RowWord, beside: RowWord, first: Outline, second: Outline) -
     requires { (first.w ≤ most_cells) × (second.w ≤ most_cells) }
     ensures { result ≡ row_shared word beside first second }
 {
-    let mut c = 0;
-    while c < first.w {
+    for c in 0..first.w {
         if cell_shared(word, beside, first, second, Ping(c as u16)) {
             return true;
         }
-        c += 1;
     }
     false
 }
@@ -77,12 +75,10 @@ pub fn offset_shared(first: Outline, words: &[RowWord], second: Outline, others:
     ensures { result
         ≡ shared (shape_by first words.now) (shape_by second others.now) }
 {
-    let mut r = 0;
-    while r < first.h {
+    for r in 0..first.h {
         if line_shared(first, words, second, others, Bin(r as u16)) {
             return true;
         }
-        r += 1;
     }
     false
 }

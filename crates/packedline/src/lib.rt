@@ -35,10 +35,8 @@ pub fn copy_over(over: bool, b: &mut [u8], at: usize, s: &[u8])
     ensures { b.new ≡ laid at (length s.now)
         (λ i. faced_byte over (get_or s.now i 0)) b.old }
 {
-    let mut i = 0;
-    while i < s.len() {
+    for i in 0..s.len() {
         b[at + i] = faced(over, s[i]);
-        i += 1;
     }
 }
 
@@ -91,9 +89,9 @@ pub fn run_word(wide: usize) -> u64
     ensures { result ≡ run_word wide }
 {
     if 64 <= wide {
-        return 18446744073709551615;
+        return u64::MAX;
     }
-    18446744073709551615 - (18446744073709551615 >> wide)
+    u64::MAX - (u64::MAX >> wide)
 }
 
 // A run of `wide` cells, the first of which falls on place `from`:
@@ -105,6 +103,7 @@ fn run_places(at: &mut [u8], n: usize, wide: usize, from: usize) -> usize
 {
     let mut count = 0;
     let mut c = 0;
+    // a range that steps by n would leave the windows to be counted all the same
     while c + n < wide {
         at[count] = (from + c) as u8;
         count += 1;
@@ -139,6 +138,7 @@ fn cell_places(at: &mut [u8], grows: bool, word: u64, o: usize) -> usize
 {
     let mut m = word;
     let mut count = 0;
+    // the step depends on where the next cell is found
     while m != 0 {
         let c = first_cell(m);
         at[count] = cell_place(grows, o, c) as u8;

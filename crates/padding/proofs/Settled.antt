@@ -1,6 +1,6 @@
 -- Any two outcomes that a contract allows of one call are the same: for each public function, of its contract
 -- itself, as the prover reads it.
-use Rattle.basics.specs.Settles.{Settles, SettlesBytes}
+use Rattle.basics.specs.Settles.{Settles}
 use Rattle.basics.proofs.Settled.{settled}
 use Rattle.padding.proofs.spare_bits.Kinds as spare-bits-kinds
 use Rattle.padding.proofs.spare_bits.Reads as spare-bits

@@ -19,17 +19,16 @@ pub fn spare_bits(depth: Depth, w: usize) -> usize
 }
 
 // The last byte of each of h rows of n bytes is a multiple of m.
+#[tactic(auto, using(basics::proofs::Tests::walk), unfolding(picture::specs::Bytes::lasts_clear))]
 fn lasts_clear(s: &[u8], n: usize, m: u8, h: usize) -> bool
     requires { (1 ≤ n) × ((1 ≤ m) × (h * n ≤ length s.now)) }
     ensures { result ≡ lasts_clear s.now n m h }
 {
-    let mut y = 0;
-    while y < h {
+    for y in 0..h {
         let last = y * n + (n - 1);
         if s[last] % m != 0 {
             return false;
         }
-        y += 1;
     }
     true
 }

@@ -26,10 +26,10 @@ fn between(at: Offset) -> Bounds
     ensures { result ≡ between_of at }
 {
     Bounds {
-        left: basics::lesser(CENTRE, at.x),
-        right: basics::greater(CENTRE, at.x),
-        top: basics::lesser(CENTRE, at.y),
-        bottom: basics::greater(CENTRE, at.y),
+        left: CENTRE.min(at.x),
+        right: CENTRE.max(at.x),
+        top: CENTRE.min(at.y),
+        bottom: CENTRE.max(at.y),
     }
 }
 

@@ -1,5 +1,5 @@
 -- The sizes of rows at both depths.
-use Prim.Native.Nat.{ℕ, ◌+◌, ◌-◌, ◌*◌, ◌%◌, ◌^◌, ◌≤◌, ◌<◌}
+use Prim.Native.Nat.{ℕ, ◌+◌, ◌*◌, ◌%◌, ◌^◌, ◌≤◌, ◌<◌}
 use mathlib.Core.Path.{◌≡◌, ap, ◌∙◌}
 use mathlib.Core.Bool.{true, ◌&&◌}
 use native.Mathlib.Omega.{arith}
@@ -29,11 +29,6 @@ column_in EightBit x w h = h
 pub column_small : (depth : Depth) (x : ℕ) → column_byte depth x ≤ x
 column_small OneBit x = omega arith
 column_small EightBit x = omega arith
-
--- a byte's place fits a machine word, whatever the bin
-pub byte_fits : (y r q : ℕ) → y < 2 ^ 16 → r ≤ most_pings → q < 2 ^ 16 → y * r + q < 2 ^ 64
-byte_fits y r q hy hr hq =
-    omega (arith, mul-le-mul {n₁ = y} {m₁ = r} {n₂ = 65535} {m₂ = most_pings} (omega arith) hr)
 
 pub spare_few : (depth : Depth) (w : ℕ) → spare_bits depth w < 8
 spare_few OneBit w = omega arith

@@ -37,19 +37,11 @@ pub enum Face {
 }
 
 // The frame is within the limits.
+#[tactic(auto, unfolding(crate::specs::Frame::sized_frame))]
 pub fn sized(w: usize, h: usize) -> bool
     ensures { result ≡ sized_frame w h }
 {
-    if w < 1 {
-        return false;
-    }
-    if MOST_PINGS < w {
-        return false;
-    }
-    if h < 1 {
-        return false;
-    }
-    h <= MOST_BINS
+    (1..=MOST_PINGS).contains(&w) && (1..=MOST_BINS).contains(&h)
 }
 
 pub fn row_bytes(depth: Depth, w: usize) -> usize

@@ -1,21 +1,21 @@
 -- A header read with its numbers kept says what the header says, kept;
 -- and the loop's laws: one byte more, the single white space, a broken header, the end of the file.
-use Prim.Native.Nat.{ℕ, suc, min, ◌+◌, ◌-◌, ◌*◌, ◌≤◌, ◌<◌}
-use mathlib.Core.Path.{◌≡◌, refl, sym, ap, ap₂, ◌∙◌, subst}
-use mathlib.Core.Bool.{Bool, true, false, cond, ◌||◌}
+use Prim.Native.Nat.{ℕ, suc, ◌+◌, ◌-◌, ◌*◌, ◌≤◌, ◌<◌}
+use mathlib.Core.Path.{◌≡◌, refl, sym, ap, ap₂, ◌∙◌}
+use mathlib.Core.Bool.{Bool, true, false, cond}
 use mathlib.Core.List.{List, [], ◌∷◌}
 use native.Mathlib.Omega.{arith}
-use native.Mathlib.Nat.{le_refl}
 use native.Mathlib.Numerals.{add-one}
 use borrow.Author.Tests.{eq-eqb, ne_eqb}
-use lib.Dec.{eqb, leb}
+use lib.Dec.{eqb}
 use lib.ListN.{length, get_or, drop, drop_of_length-le}
 use lib.Seq.{drop-cons}
 use Rattle.pnmheader.specs.declared.Scan.{Scan}
 use Rattle.pnmheader.specs.declared.Found.{Found}
 use Rattle.pnmheader.specs.Header.{is_white, is_digit, ignored, open_after, part_after, number_after, step}
 use Rattle.pnmheader.specs.Header.{Head, ended, no_head, scan}
-use Rattle.pnmheader.specs.Steps.Held.{held, hold, nothing, Says}
+use Rattle.pnmheader.specs.Steps.Held.{held, hold, Says}
+use Rattle.std.specs.Prelude.{Some, None}
 
 -- ---- what is kept of a number after a byte goes by what was kept before it
 number_held : (i t : Bool) (d n : ℕ)
@@ -152,13 +152,13 @@ broken single s (b ∷ l) some e =
     part_is = ap (λ n. part_after s.comment n b) e ∙ broken_stays s.comment b
 
 -- ---- what is given back says what the header says
-says : (f : List ℕ) (head other : Head) (r : Found) → hold_head head ≡ hold_head other → r.whole ≡ other.whole
+says : (f : List ℕ) (head other : Head) (r : Found) → hold_head head ≡ hold_head other → other.whole ≡ true
     → r.w ≡ held other.w → r.h ≡ held other.h → r.most ≡ held other.most
-    → r.at ≤ length f → drop r.at f ≡ other.raster → Says f head r
+    → r.at ≤ length f → drop r.at f ≡ other.raster → Says f head (Some r)
 unfolding hold_head
 says f head other r e whole w h most inside raster =
     record {
-      whole = whole ∙ sym (ap (λ (a : Head). a.whole) e);
+      whole = sym whole ∙ sym (ap (λ (a : Head). a.whole) e);
       w = w ∙ sym (ap (λ (a : Head). a.w) e);
       h = h ∙ sym (ap (λ (a : Head). a.h) e);
       most = most ∙ sym (ap (λ (a : Head). a.most) e);
@@ -166,12 +166,17 @@ says f head other r e whole w h most inside raster =
       raster = raster ∙ sym (ap (λ (a : Head). a.raster) e);
     }
 
-pub says_nothing : (f : List ℕ) (head : Head) (r : Found) → hold_head head ≡ hold_head no_head
-    → r ≡ nothing (length f) → Says f head r
-says_nothing f head r e q =
-    subst (λ (a : Found). Says f head a) (sym q)
-    (says f head no_head (nothing (length f)) e refl (omega arith) (omega arith) (omega arith)
-    (le_refl (length f)) (drop_of_length-le f (le_refl (length f))))
+pub says_nothing : (f : List ℕ) (head : Head) → hold_head head ≡ hold_head no_head → Says f head None
+unfolding hold_head
+says_nothing f head e =
+    record {
+      whole = sym (ap (λ (a : Head). a.whole) e);
+      w = tt;
+      h = tt;
+      most = tt;
+      inside = tt;
+      raster = tt;
+    }
 
 -- ---- the loop over the bytes of f
 module _ (f : List ℕ) (single : ℕ) where
@@ -183,12 +188,11 @@ module _ (f : List ℕ) (single : ℕ) where
   unfolding Remains
   none_read s i = refl
 
-  pub all_read : (head : Head) (s : Scan) (i : ℕ) → Remains head s i → length f ≤ i → (r : Found)
-      → r ≡ nothing (length f) → Says f head r
+  pub all_read : (head : Head) (s : Scan) (i : ℕ) → Remains head s i → length f ≤ i → Says f head None
   unfolding Remains scan
-  all_read head s i l h r q =
-      says_nothing f head r
-      (l ∙ ap (λ k. hold_head (scan single s k)) (drop_of_length-le f h)) q
+  all_read head s i l h =
+      says_nothing f head
+      (l ∙ ap (λ k. hold_head (scan single s k)) (drop_of_length-le f h))
 
   module _ (head : Head) (s : Scan) (i : ℕ) (l : Remains head s i) (h : i < length f) (x : Scan)
       (e : x ≡ hold (step s (get_or f i 0))) where
@@ -206,19 +210,18 @@ module _ (f : List ℕ) (single : ℕ) where
     unfolding Remains
     onward n = byte_read false (ne_eqb x.part single n)
 
-    pub stopped : (x.part ≡ single → ⊥) → x.part ≡ 0 → 0 < single → (r : Found) → r ≡ nothing (length f)
-        → Says f head r
-    stopped n z some r q =
-        says_nothing f head r
+    pub stopped : (x.part ≡ single → ⊥) → x.part ≡ 0 → 0 < single → Says f head None
+    stopped n z some =
+        says_nothing f head
         (byte_read false (ne_eqb x.part single n)
-        ∙ ap hold_head (broken single x (drop (i + 1) f) some z)) q
+        ∙ ap hold_head (broken single x (drop (i + 1) f) some z))
 
     kept : (g : Scan → ℕ) → held (g (hold (step s (get_or f i 0)))) ≡ g (hold (step s (get_or f i 0)))
         → g x ≡ held (g x)
     kept g q = ap g e ∙ sym q ∙ sym (ap (λ (y : Scan). held (g y)) e)
 
     pub found : x.part ≡ single
-        → Says f head (record { whole = true; w = x.w; h = x.h; most = x.most; at = i + 1 })
+        → Says f head (Some (record { w = x.w; h = x.h; most = x.most; at = i + 1 }))
     unfolding hold
     found q =
         says f head (ended x (drop (i + 1) f)) _ (byte_read true (eq-eqb x.part single q)) refl

@@ -1,7 +1,8 @@
 -- Any two outcomes that a contract allows of one call are the same:
 -- for each public function, of its contract itself, as the prover reads it.
-use Prim.Native.Nat.{ℕ, ◌-◌, ◌≤◌}
-use mathlib.Core.Path.{◌≡◌, sym, ap, ◌∙◌}
+use Prim.Native.Nat.{ℕ, ◌≤◌}
+use mathlib.Core.Path.{◌≡◌, refl, sym, ap, ◌∙◌}
+use Rattle.std.specs.Prelude.{Option, Some, None}
 use mathlib.Core.List.{List}
 use native.Mathlib.Omega.{arith}
 use lib.ListN.{length, drop, length-drop}
@@ -19,14 +20,16 @@ use Rattle.pnmheader.proofs.read_header.Reads as read-header
 same_place : (f : List ℕ) (a b : ℕ) → a ≤ length f → b ≤ length f → drop a f ≡ drop b f → a ≡ b
 same_place f a b p q e = omega (arith, ap length e, length-drop a f, length-drop b f)
 
-same_found : (f : List ℕ) (head : Head) (x y : Found) → Says f head x → Says f head y → x ≡ y
-same_found f head x y p q = λ i. record {
-  whole = settled p.whole q.whole i;
+same_found : (f : List ℕ) (head : Head) (x y : Option Found) → Says f head x → Says f head y → x ≡ y
+same_found f head None None p q = refl
+same_found f head None (Some b) p q = let z = p.whole ∙ sym q.whole in cc
+same_found f head (Some a) None p q = let z = p.whole ∙ sym q.whole in cc
+same_found f head (Some a) (Some b) p q = λ i. Some (record {
   w = settled p.w q.w i;
   h = settled p.h q.h i;
   most = settled p.most q.most i;
-  at = same_place f x.at y.at p.inside q.inside (settled p.raster q.raster) i;
-}
+  at = same_place f a.at b.at p.inside q.inside (settled p.raster q.raster) i;
+})
 
 pub magic_digit_settled : Settles 0 magic-digit-kinds.ps magic-digit-kinds.r magic-digit.Learnt
 magic_digit_settled κs a x y s t p q = settled p q

@@ -2,11 +2,11 @@
 // the size, the maximum, and where the raster begins.
 #![tactic(auto)]
 
-ghost use Rattle.std.specs.Prelude.{◌≡◌, min, ◌+◌, ◌-◌, ◌≤◌, ◌<◌, drop};
-ghost use Rattle.pnmheader.specs.Header.{is_white, is_digit, ends_line, ignored, open_after};
+ghost use Rattle.std.specs.Prelude.{◌≡◌, min, ◌+◌, ◌≤◌, ◌<◌, drop};
+ghost use Rattle.pnmheader.specs.Header.{is_white, ends_line, ignored, open_after};
 ghost use Rattle.pnmheader.specs.Header.{after_white, after_digit, part_after, number_after};
-ghost use Rattle.pnmheader.specs.Header.{step, begun, scan, magic_digit, single_part, marked, header};
-ghost use Rattle.pnmheader.specs.Steps.Held.{too_large, hold, nothing, Says};
+ghost use Rattle.pnmheader.specs.Header.{step, begun, scan, magic_digit, single_part, header};
+ghost use Rattle.pnmheader.specs.Steps.Held.{too_large, hold, Says};
 
 use picture::Depth;
 
@@ -21,6 +21,7 @@ const MAXIMUM: usize = 7;
 const TOO_LARGE: usize = 10000;
 
 // A header while it is read: the part that it has come to, whether a comment is open, and the numbers so far.
+// The part is a number, as `after_white` and `after_digit` of specs/Header.antt count it: odd, or even.
 #[derive(Clone, Copy)]
 pub struct Scan {
     pub part: usize,
@@ -30,10 +31,9 @@ pub struct Scan {
     pub most: usize,
 }
 
-// What a header says, and where the raster begins; not whole, and all 0, where the header is broken.
-#[derive(Clone, Copy)]
+// What a whole header says, and where the raster begins.
+#[derive(Clone, Copy, Debug, PartialEq, Eq)]
 pub struct Found {
-    pub whole: bool,
     pub w: usize,
     pub h: usize,
     pub most: usize,
@@ -43,51 +43,27 @@ pub struct Found {
 fn is_white(b: u8) -> bool
     ensures { result ≡ is_white b }
 {
-    if b == b' ' {
-        return true;
-    }
-    if b < b'\t' {
-        return false;
-    }
-    b <= b'\r'
-}
-
-fn is_digit(b: u8) -> bool
-    ensures { result ≡ is_digit b }
-{
-    if b < b'0' {
-        return false;
-    }
-    b <= b'9'
+    matches!(b, b' ' | b'\t'..=b'\r')
 }
 
 fn ends_line(b: u8) -> bool
     ensures { result ≡ ends_line b }
 {
-    if b == b'\n' {
-        return true;
-    }
-    b == b'\r'
+    matches!(b, b'\n' | b'\r')
 }
 
 // The byte belongs to a comment.
 fn is_ignored(comment: bool, b: u8) -> bool
     ensures { result ≡ ignored comment b }
 {
-    if comment {
-        return true;
-    }
-    b == b'#'
+    comment || b == b'#'
 }
 
 // A comment is open after the byte.
 fn open_after(comment: bool, b: u8) -> bool
     ensures { result ≡ open_after comment b }
 {
-    if is_ignored(comment, b) {
-        return !ends_line(b);
-    }
-    false
+    is_ignored(comment, b) && !ends_line(b)
 }
 
 fn after_white(part: usize) -> usize
@@ -114,6 +90,7 @@ fn after_digit(part: usize) -> usize
 }
 
 // The part that the header has come to after the byte: 0 where it is broken.
+#[tactic(auto, unfolding(crate::specs::Header::part_after))]
 fn part_after(comment: bool, part: usize, b: u8) -> usize
     requires { part < 8 }
     ensures { (result ≡ part_after comment part b) × (result ≤ part + 1) }
@@ -124,31 +101,22 @@ fn part_after(comment: bool, part: usize, b: u8) -> usize
     if is_white(b) {
         return after_white(part);
     }
-    if is_digit(b) {
+    if b.is_ascii_digit() {
         return after_digit(part);
     }
     0
-}
-
-fn value_of(b: u8) -> usize
-    ensures { (result ≡ b - 48) × (result ≤ 255) }
-{
-    if b < b'0' {
-        return 0;
-    }
-    (b - b'0') as usize
 }
 
 // A number after the byte, where the header has come to `part` and the number is the part `own`.
 fn number_after(comment: bool, part: usize, own: usize, b: u8, n: usize) -> usize
     ensures { result ≡ min (number_after comment part own b n) too_large }
 {
-    let held = basics::lesser(n, TOO_LARGE);
+    let held = n.min(TOO_LARGE);
     if is_ignored(comment, b) {
         return held;
     }
     if part == own {
-        return basics::lesser(held * 10 + value_of(b), TOO_LARGE);
+        return (held * 10 + usize::from(b.saturating_sub(b'0'))).min(TOO_LARGE);
     }
     held
 }
@@ -169,21 +137,8 @@ fn next(s: Scan, b: u8) -> Scan
     }
 }
 
-// No header, of a file of n bytes.
-fn none(n: usize) -> Found
-    ensures { result ≡ nothing n }
-{
-    Found {
-        whole: false,
-        w: 0,
-        h: 0,
-        most: 0,
-        at: n,
-    }
-}
-
 // The header past its magic, up to the single white space, which is the part `single`.
-fn scan_file(f: &[u8], single: usize) -> Found
+fn scan_file(f: &[u8], single: usize) -> Option<Found>
     requires { (1 < single) × (single ≤ 8) }
     ensures { Says f.now (scan single begun (drop 2 f.now)) result }
 {
@@ -194,25 +149,21 @@ fn scan_file(f: &[u8], single: usize) -> Found
         h: 0,
         most: 0,
     };
-    let mut i = 2;
-    while i < f.len() {
-        let more = next(s, f[i]);
-        s = more;
-        i += 1;
+    for i in 2..f.len() {
+        s = next(s, f[i]);
         if s.part == single {
-            return Found {
-                whole: true,
+            return Some(Found {
                 w: s.w,
                 h: s.h,
                 most: s.most,
-                at: i,
-            };
+                at: i + 1,
+            });
         }
         if s.part == 0 {
-            return none(f.len());
+            return None;
         }
     }
-    none(f.len())
+    None
 }
 
 fn single_part(depth: Depth) -> usize
@@ -234,24 +185,12 @@ pub fn magic_digit(depth: Depth) -> u8
     }
 }
 
-fn is_marked(depth: Depth, f: &[u8]) -> bool
-    ensures { result ≡ marked depth f.now }
-{
-    if f.len() < 2 {
-        return false;
-    }
-    if f[0] != b'P' {
-        return false;
-    }
-    f[1] == magic_digit(depth)
-}
-
-// The header of a file of this depth's own magic.
-pub fn read_header(depth: Depth, f: &[u8]) -> Found
+// The header of a file of this depth's own magic, where it is whole.
+pub fn read_header(depth: Depth, f: &[u8]) -> Option<Found>
     ensures { Says f.now (header depth f.now) result }
 {
-    if is_marked(depth, f) {
-        return scan_file(f, single_part(depth));
+    if !f.starts_with(&[b'P', magic_digit(depth)]) {
+        return None;
     }
-    none(f.len())
+    scan_file(f, single_part(depth))
 }

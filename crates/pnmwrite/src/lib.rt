@@ -63,21 +63,9 @@ fn write_file(depth: Depth, w: usize, h: usize, source: &[u8], target: &mut [u8]
 {
     let before = head_len(depth, w, h);
     let room = target.len();
-    let a = judge::refusal(
-        Padding::Free,
-        depth,
-        w,
-        h,
-        source,
-        Answer::Done,
-        before,
-        room,
-    );
-    if answer::is_done(a) {
-        put_file(depth, w, h, source, target);
-        return a;
-    }
-    a
+    judge::refusal(Padding::Free, depth, w, h, source, Ok(()), before, room)?;
+    put_file(depth, w, h, source, target);
+    Ok(())
 }
 
 // Writes a one-bit picture as a raw PBM file: an echo is 1, which is black.

@@ -25,7 +25,7 @@ fn mask_of(p: Ping) -> u8
 fn column_byte(depth: Depth, p: Ping) -> usize
     ensures { result ≡ column_byte depth p.0 }
 {
-    let x = p.0 as usize;
+    let x = usize::from(p.0);
     match depth {
         Depth::OneBit => x >> 3,
         Depth::EightBit => x,
@@ -37,8 +37,7 @@ fn byte_of(depth: Depth, w: usize, p: Point) -> usize
     requires { w ≤ most_pings }
     ensures { result ≡ byte_at depth w p.ping.0 p.bin.0 }
 {
-    let b = p.bin;
-    let y = b.0 as usize;
+    let y = usize::from(p.bin.0);
     y * picture::row_bytes(depth, w) + column_byte(depth, p.ping)
 }
 

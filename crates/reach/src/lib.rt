@@ -71,10 +71,8 @@ fn first_rows(cells: &[RowWord; MOST_CELLS]) -> [RowWord; MOST_LINK_CELLS]
     ensures { result ≡ first_rows cells.now }
 {
     let mut rows = [0; MOST_LINK_CELLS];
-    let mut r = 0;
-    while r < MOST_LINK_CELLS {
+    for r in 0..MOST_LINK_CELLS {
         rows[r] = cells[r];
-        r += 1;
     }
     rows
 }

@@ -1,6 +1,5 @@
 -- Any two outcomes that a contract allows of one call are the same:
 -- for each public function, of its contract itself, as the prover reads it.
-use Rattle.answer.proofs.OneToOne.{same_answer}
 use Rattle.basics.specs.Settles.{Settles}
 use Rattle.basics.proofs.Settled.{settled}
 use Rattle.reader.proofs.outline_at.Kinds as outline-at-kinds
@@ -22,9 +21,4 @@ pub element_at_settled : Settles 1 element-at-kinds.ps element-at-kinds.r elemen
 element_at_settled κs a x y s t p q = settled p q
 
 pub read_element_settled : Settles 1 read-element-kinds.ps read-element-kinds.r read-element.Learnt
-read_element_settled κs a x y s t p q =
-    λ i.
-    record {
-      answer = same_answer x.answer y.answer _ p.0 q.0 i;
-      element = settled p.1 q.1 i;
-    }
+read_element_settled κs a x y s t p q = settled p q

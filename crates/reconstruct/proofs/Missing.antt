@@ -1,7 +1,7 @@
 -- How many points are not set: fewer where a visit gained one. So walks and sweeps end.
 use Prim.Native.Nat.{ℕ, ◌+◌, ◌-◌, ◌*◌, ◌/◌, ◌%◌, ◌≤◌, ◌<◌}
 use mathlib.Core.Path.{◌≡◌, refl, sym, ap, subst}
-use mathlib.Core.Bool.{Bool, true, false, cond}
+use mathlib.Core.Bool.{Bool, true, false}
 use mathlib.Core.List.{List}
 use native.Mathlib.Omega.{arith}
 use lib.ListN.{get_or}
@@ -34,10 +34,6 @@ module _ (r : Rows) (mask t s : List ℕ) (S : ℕ → ℕ → Type 0) where
   same_missing : Visit r mask t s false S → missing r s ≡ missing r t
   same_missing v = ap (missing r) (sym (v.same refl))
 
-  turn_less : (b : Bool) → Visit r mask t s b S → cond b 1 0 + missing r s < 1 + missing r t
-  turn_less true v = omega (arith, gained_less v)
-  turn_less false v = omega (arith, same_missing v)
-
   pub walk_less : (b : Bool) (y z : ℕ) → Visit r mask t s b S → y < r.h → z ≡ next_row b y
       → 2 * missing r s + (r.h - z) < 2 * missing r t + (r.h - y)
   walk_less true y z v hy e = omega (arith, gained_less v)
@@ -53,11 +49,11 @@ grew_missing r mask l t g =
           (λ p i. g.more p.x p.y i.ping i.bin),
     )
 
-pub helped_less : (r : Rows) (mask l t s : List ℕ) (S : ℕ → ℕ → Type 0) (was b : Bool) → was ≡ true
-    → Grew r mask l t → Visit r mask t s b S → cond b 1 0 + missing r s < cond was 1 0 + missing r l
-helped_less r mask l t s S was b e g v =
-    subst (λ x. cond b 1 0 + missing r s < cond x 1 0 + missing r l) (sym e)
-    (omega (arith, turn_less r mask t s S b v, grew_missing r mask l t g))
+pub helped_less : (r : Rows) (mask l t s : List ℕ) (S : ℕ → ℕ → Type 0) (b : Bool) → b ≡ true
+    → Grew r mask l t → Visit r mask t s b S → missing r s < missing r l
+helped_less r mask l t s S b e g v =
+    let w = gained_less r mask t s S (subst (λ b. Visit r mask t s b S) e v) in
+    omega (arith, w, grew_missing r mask l t g)
 
 pub next_in : (b : Bool) (y z h : ℕ) → y < h → z ≡ next_row b y → z ≤ h
 next_in true y z h hy e = omega arith

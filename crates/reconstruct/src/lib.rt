@@ -18,7 +18,8 @@ use grown::Neighbours;
 use picture::{Depth, Face};
 use settle::Cell;
 
-// Rows of n bytes with u spare bits, h of them; the points aslant count or do not.
+// Rows of n bytes with u spare bits, h of them. `square`: the points aslant count. It stays a flag, since the
+// definition `Rows` and those of crate settle, which stands below the enum, say it so (`spread_of`, `Touch`).
 #[derive(Clone, Copy)]
 struct Rows {
     square: bool,
@@ -30,19 +31,7 @@ struct Rows {
 fn is_square(neighbours: Neighbours) -> bool
     ensures { result ≡ square_of neighbours }
 {
-    match neighbours {
-        Neighbours::Cross => false,
-        Neighbours::Square => true,
-    }
-}
-
-fn either(a: bool, b: bool) -> bool
-    ensures { result ≡ (a || b) }
-{
-    if a {
-        return true;
-    }
-    b
+    matches!(neighbours, Neighbours::Square)
 }
 
 // The i-th of n, from the first or from the last.
@@ -65,22 +54,20 @@ fn pass(r: Rows, back: bool, y: usize, mask: &[u8], t: &mut [u8]) -> bool
 {
     let q = (r.n + 7) >> 3;
     let mut changed = false;
-    let mut i = 0;
-    while i < q {
+    for i in 0..q {
         let j = turned(back, q, i) * 8;
-        let k = basics::lesser(8, r.n - j);
+        let k = usize::min(8, r.n - j);
         let c = Cell {
             square: r.square,
             n: r.n,
             u: r.u,
             h: r.h,
-            y: y,
-            j: j,
-            k: k,
+            y,
+            j,
+            k,
         };
         let b = settlecell::settle_cell(c, mask, t);
-        changed = either(changed, b);
-        i += 1;
+        changed = changed | b;
     }
     changed
 }
@@ -106,12 +93,10 @@ fn sweep(r: Rows, up: bool, mask: &[u8], t: &mut [u8]) -> bool
     ensures { Visit r mask.now t.old t.new result (SweptTo r up r.h) }
 {
     let mut changed = false;
-    let mut i = 0;
-    while i < r.h {
+    for i in 0..r.h {
         let y = turned(up, r.h, i);
         let b = settle_row(r, y, mask, t);
-        changed = either(changed, b);
-        i += 1;
+        changed = changed | b;
     }
     changed
 }
@@ -122,7 +107,7 @@ fn next_row(changed: bool, y: usize) -> usize
     ensures { result ≡ next_row changed y }
 {
     if changed {
-        return basics::greater(y, 1) - 1;
+        return y.saturating_sub(1);
     }
     y + 1
 }
@@ -133,6 +118,7 @@ fn walk(r: Rows, mask: &[u8], t: &mut [u8])
     requires room_2 { Room r (length t.old) }
     ensures { Grew r mask.now t.old t.new }
 {
+    // Where it goes next depends on what it found, so that the rows are not counted.
     let mut y = 0;
     while y < r.h {
         let b = settle_row(r, y, mask, t);
@@ -169,11 +155,12 @@ fn grow(r: Rows, mask: &[u8], t: &mut [u8])
     ensures grew { Grew r mask.now t.old t.new }
     ensures still { StillAll r mask.now t.new }
 {
-    let mut busy = true;
     let mut k = 0;
-    while busy {
+    loop {
         help(r, k, mask, t);
-        busy = sweep(r, k % 2 == 1, mask, t);
+        if !sweep(r, k % 2 == 1, mask, t) {
+            return;
+        }
         k = next_turn(k);
     }
 }
@@ -197,9 +184,9 @@ fn make(neighbours: Neighbours, w: usize, h: usize, marker: &[u8], mask: &[u8], 
     let u = padding::spare_bits(Depth::OneBit, w);
     let r = Rows {
         square: is_square(neighbours),
-        n: n,
-        u: u,
-        h: h,
+        n,
+        u,
+        h,
     };
     grow(r, mask, target);
 }
@@ -218,10 +205,7 @@ pub fn reconstruct(
     ensures bytes { target.new
         ≡ reconstruct_left neighbours w h marker.now mask.now target.old }
 {
-    let no = marker::refusal(w, h, marker, mask, target.len());
-    if answer::is_done(no) {
-        make(neighbours, w, h, marker, mask, target);
-        return no;
-    }
-    no
+    marker::refusal(w, h, marker, mask, target.len())?;
+    make(neighbours, w, h, marker, mask, target);
+    Ok(())
 }

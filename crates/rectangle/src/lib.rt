@@ -29,6 +29,7 @@ pub fn bits(grows: bool, s: &[u8], t: &mut [u8], w: usize, h: usize, o: Outline)
 {
     let mut b = [0u8; ROOM_BITS];
     let mut y = 0;
+    // Two rows a turn, and y says afterwards whether one is left: a `for` by twos would find that out anew.
     while y + 1 < h {
         boxpair::upper(true, grows, &s[..], t, &mut b, w, h, o, y, y + 1);
         boxpair::lower(true, grows, t, &mut b, w, h, o, y + 1);
@@ -59,6 +60,7 @@ pub fn bytes(grows: bool, s: &[u8], t: &mut [u8], w: usize, h: usize, o: Outline
 {
     let mut b = [0u8; ROOM_BYTES];
     let mut y = 0;
+    // Two rows a turn, and y says afterwards whether one is left: a `for` by twos would find that out anew.
     while y + 1 < h {
         boxpair::upper(false, grows, s, t, &mut b, w, h, o, y, y + 1);
         boxpair::lower(false, grows, t, &mut b, w, h, o, y + 1);

@@ -1,3 +1,5 @@
 pub mod Row
 pub mod Blocks
+pub mod Windows
+pub mod Lanes
 pub mod Settled

@@ -1,6 +1,6 @@
 -- Runs down the columns: from runs of c rows those of c + d, where d is no more than c.
-use Prim.Native.Nat.{ℕ, ◌+◌, ◌-◌, ◌*◌, ◌≤◌, ◌<◌}
-use mathlib.Core.Path.{◌≡◌, refl, sym, ap, ◌∙◌}
+use Prim.Native.Nat.{ℕ, ◌+◌, ◌≤◌, ◌<◌}
+use mathlib.Core.Path.{◌≡◌}
 use mathlib.Core.Bool.{Bool, true, false, cond}
 use mathlib.Core.Logic.{⊎_elim}
 use native.Mathlib.Omega.{arith}
@@ -15,7 +15,7 @@ use Rattle.rows.specs.Steps.Ways.{swept_by}
 use Rattle.windows.specs.Steps.Bounds.{Bound}
 use Rattle.windows.proofs.Bounds.{bounds_same, join_to, join_from, join_lt}
 use Rattle.sizes.specs.Spectrum.{rect}
-use Rattle.sizes.proofs.Near.{From, Near, rect_full, near_to, near_from, swept_small}
+use Rattle.sizes.proofs.Near.{Near, rect_full, near_to, near_from, swept_small}
 
 module _ (F : Frame) (A : Picture) (b : Bounded 1 F A) (c d : ℕ) (some : 1 ≤ c) (few : d ≤ c) where
   abbrev run : Bool → ℕ → ℕ → ℕ → ℕ

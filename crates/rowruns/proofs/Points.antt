@@ -1,6 +1,6 @@
 -- A packed picture whose rows are whole bytes: what its points are settles its bytes.
 use Prim.Native.Nat.{ℕ, ◌+◌, ◌-◌, ◌*◌, ◌/◌, ◌%◌, ◌^◌, ◌≤◌, ◌<◌}
-use mathlib.Core.Path.{◌≡◌, refl, sym, ap, ap₂, ◌∙◌, subst, subst₂}
+use mathlib.Core.Path.{◌≡◌, sym, ap, ap₂, ◌∙◌, subst}
 use mathlib.Core.List.{List}
 use mathlib.Core.Logic.{⊎_elim}
 use native.Mathlib.Nat.{mod-lt, div-lt_iff_lt-mul, div-add-mod'}
@@ -12,7 +12,7 @@ use Rattle.basics.specs.Bytes.{Bytes}
 use Rattle.basics.proofs.Bits.{bit_lt, bits_same}
 use Rattle.basics.proofs.SliceParts.{below_or_not}
 use Rattle.picture.specs.declared.Depth.TheVariants.{OneBit}
-use Rattle.picture.specs.Frame.{Frame, frame, picture_bytes}
+use Rattle.picture.specs.Frame.{frame, picture_bytes}
 use Rattle.picture.specs.Points.{value_at, value_in}
 use Rattle.picture.specs.Bytes.{Picture, bytes_of, written}
 use Rattle.picture.proofs.Points.{written_value}

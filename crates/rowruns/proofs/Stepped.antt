@@ -1,5 +1,5 @@
 -- What one step down the columns makes of a picture's points, and so of runs.
-use Prim.Native.Nat.{ℕ, ◌+◌, ◌-◌, ◌*◌, ◌/◌, ◌%◌, ◌^◌, ◌≤◌, ◌<◌}
+use Prim.Native.Nat.{ℕ, ◌+◌, ◌-◌, ◌*◌, ◌/◌, ◌%◌, ◌≤◌, ◌<◌}
 use mathlib.Core.Path.{◌≡◌, refl, sym, ap, ap₂, ◌∙◌, subst}
 use mathlib.Core.Bool.{Bool, true, false, cond}
 use mathlib.Core.List.{List}
@@ -20,7 +20,6 @@ use Rattle.morphology.specs.Order.{Bounded}
 use Rattle.rows.specs.Steps.Fold.{join_by}
 use Rattle.rows.specs.Steps.Ways.{swept_by}
 use Rattle.rows.proofs.Swept.{swept_bounded}
-use Rattle.blocks.specs.Steps.Joins.{join_packed}
 use Rattle.blocks.proofs.Laid.{get_in, get_first, get_before, get_after}
 use Rattle.blocks.proofs.Points.{bit_join}
 use Rattle.sizes.specs.Spectrum.{rect}

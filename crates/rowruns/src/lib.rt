@@ -9,16 +9,8 @@ ghost use Rattle.picture.specs.Points.{value_at};
 ghost use Rattle.picture.specs.Bytes.{written};
 ghost use Rattle.morphology.specs.Operations.{flat};
 ghost use Rattle.rows.specs.Steps.Ways.{swept_by};
-ghost use Rattle.blocks.specs.Steps.Joins.{join_packed};
 ghost use Rattle.sizes.specs.Spectrum.{rect};
 ghost use Rattle.rowruns.specs.Steps.Pieces.{start_of, put_of, piece_of, Rows};
-
-// Two bytes joined: eight points at once.
-fn joined(grows: bool, a: u8, b: u8) -> u8
-    ensures { result ≡ join_packed grows a b }
-{
-    if grows { a | b } else { a & b }
-}
 
 // Of n bytes, c of them done, where the next m begin: erosion goes from the first byte on and dilation from
 // the last one back, so that nothing is read that was written.
@@ -57,7 +49,7 @@ fn join_byte(grows: bool, t: &mut [u8], i: usize, s: usize)
 {
     let j = i + s;
     let at = put_place(grows, i, j);
-    t[at] = joined(grows, t[i], t[j]);
+    t[at] = blocks::joined(grows, t[i], t[j]);
 }
 
 // As many whole blocks of n bytes as there are. It gives how many bytes these are.
@@ -65,13 +57,12 @@ fn join_blocks(grows: bool, t: &mut [u8], s: usize, n: usize) -> usize
     requires { n + s ≤ length t.old }
     ensures { (result ≤ n) × (t.new ≡ piece_of grows (start_of grows n 0 result) s result t.old) }
 {
-    let mut c = 0;
-    while c + blocks::BLOCK <= n {
-        let i = start(grows, n, c, blocks::BLOCK);
+    let count = n / blocks::BLOCK;
+    for k in 0..count {
+        let i = start(grows, n, blocks::BLOCK * k, blocks::BLOCK);
         join_block(grows, t, i, s);
-        c += blocks::BLOCK;
     }
-    c
+    blocks::BLOCK * count
 }
 
 // The bytes that are left after c of n.
@@ -79,11 +70,9 @@ fn join_rest(grows: bool, t: &mut [u8], s: usize, n: usize, c: usize)
     requires { (c ≤ n) × (n + s ≤ length t.old) }
     ensures { t.new ≡ piece_of grows (start_of grows n c (n - c)) s (n - c) t.old }
 {
-    let mut m = 0;
-    while m < n - c {
+    for m in 0..n - c {
         let i = start(grows, n, c + m, 1);
         join_byte(grows, t, i, s);
-        m += 1;
     }
 }
 
@@ -116,8 +105,9 @@ pub fn runs(grows: bool, t: &mut [u8], n: usize, h: usize, k: usize)
         (n * 8) h t.old }
 {
     let mut a = 1;
+    // a turn goes as far as what is done reaches, which no range counts
     while a < k {
-        let d = basics::lesser(a, k - a);
+        let d = a.min(k - a);
         join_rows(grows, t, n, h, d);
         a += d;
     }

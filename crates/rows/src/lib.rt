@@ -16,7 +16,7 @@ pub enum Way {
     Dilate,
 }
 
-// The way as loops have it: they can name a bool in what they keep, and no enum.
+// The way as the definitions have it: whether it is the one that grows.
 pub fn is_growing(way: Way) -> bool
     ensures { result ≡ grows_of way }
 {
@@ -35,11 +35,12 @@ pub fn place_in(n: usize, p: u16, plus: u16, minus: u16) -> usize
     if at < back {
         return n;
     }
-    basics::lesser(at - back, n)
+    (at - back).min(n)
 }
 
 // The source row that a row of an element leads to from row y, where dilation goes the other way;
 // h where the frame has none.
+#[tactic(auto, unfolding(crate::specs::Steps::Row::source_row))]
 pub fn source_row(grows: bool, h: usize, y: Bin, origin: Bin, row: Bin) -> usize
     ensures { result ≡ source_row grows h y.0 origin.0 row.0 }
 {
@@ -56,20 +57,9 @@ fn start_of(grows: bool, top: u8) -> u8
     if grows { 0 } else { top }
 }
 
-// A row of one value.
-fn fill(t: &mut [u8], v: u8)
-    ensures { t.new ≡ firsts (λ x. v) (length t.old) }
-{
-    let mut i = 0;
-    while i < t.len() {
-        t[i] = v;
-        i += 1;
-    }
-}
-
 // A row as a fold starts it: nothing of the source is in it.
 pub fn begin(grows: bool, top: u8, t: &mut [u8])
     ensures { t.new ≡ firsts (λ x. start_by grows top) (length t.old) }
 {
-    fill(t, start_of(grows, top));
+    t.fill(start_of(grows, top));
 }

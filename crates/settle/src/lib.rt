@@ -20,12 +20,6 @@ pub struct Cell {
     pub k: usize,
 }
 
-fn wide(b: u8) -> u64
-    ensures { (result ≡ b) × (result < 256) }
-{
-    b as u64
-}
-
 // Two words of d bits each as one, the first the higher.
 fn pair(d: u64, a: u64, b: u64) -> u64
     requires { (d ≤ 32) × ((a < 2 ^ d) × (b < 2 ^ d)) }
@@ -39,10 +33,10 @@ fn eight(s: &[u8], at: usize) -> u64
     requires { at + 8 ≤ length s.now }
     ensures { result ≡ word_of s.now at 8 }
 {
-    let a = pair(8, wide(s[at]), wide(s[at + 1]));
-    let b = pair(8, wide(s[at + 2]), wide(s[at + 3]));
-    let c = pair(8, wide(s[at + 4]), wide(s[at + 5]));
-    let d = pair(8, wide(s[at + 6]), wide(s[at + 7]));
+    let a = pair(8, u64::from(s[at]), u64::from(s[at + 1]));
+    let b = pair(8, u64::from(s[at + 2]), u64::from(s[at + 3]));
+    let c = pair(8, u64::from(s[at + 4]), u64::from(s[at + 5]));
+    let d = pair(8, u64::from(s[at + 6]), u64::from(s[at + 7]));
     pair(32, pair(16, a, b), pair(16, c, d))
 }
 
@@ -52,10 +46,8 @@ fn few(s: &[u8], at: usize, k: usize) -> u64
     ensures { result ≡ word_of s.now at k }
 {
     let mut v: u64 = 0;
-    let mut i = 0;
-    while i < k {
-        v = (v << 8) | wide(s[at + i]);
-        i += 1;
+    for i in 0..k {
+        v = (v << 8) | u64::from(s[at + i]);
     }
     v
 }
@@ -76,7 +68,7 @@ fn byte_before(s: &[u8], at: usize, j: usize) -> u64
     requires { at + j ≤ length s.now }
     ensures { result ≡ byte_before s.now at j }
 {
-    if 0 < j { wide(s[at + j - 1]) } else { 0 }
+    if 0 < j { u64::from(s[at + j - 1]) } else { 0 }
 }
 
 // Byte j of the row of n bytes from `at` on, 0 past its last.
@@ -84,7 +76,7 @@ fn byte_from(s: &[u8], at: usize, n: usize, j: usize) -> u64
     requires { at + n ≤ length s.now }
     ensures { result ≡ byte_from s.now at n j }
 {
-    if j < n { wide(s[at + j]) } else { 0 }
+    if j < n { u64::from(s[at + j]) } else { 0 }
 }
 
 // The points of k bytes of a row, and those right and left of a set point.

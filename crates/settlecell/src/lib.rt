@@ -67,14 +67,12 @@ fn flood(m: u64, o: u64, c: u64) -> u64
     ensures { result ≡ flooded m o c 64 }
 {
     let mut v = c;
-    let mut i = 0;
-    while i < POINTS {
+    for i in 0..POINTS {
         let next = once_in(m, o, v);
         if next == v {
             return v;
         }
         v = next;
-        i += 1;
     }
     v
 }
@@ -91,10 +89,8 @@ fn put_word(t: &mut [u8], k: usize, v: u64)
     requires { (k ≤ 8) × (length t.old ≡ k) }
     ensures { t.new ≡ firsts (byte_of v k) k }
 {
-    let mut i = 0;
-    while i < k {
+    for i in 0..k {
         t[i] = byte_of(v, k, i);
-        i += 1;
     }
 }
 

@@ -1,21 +1,16 @@
--- The tests of the layout and the refusals, as the code makes them.
-use Prim.Native.Nat.{ℕ, ◌+◌, ◌-◌, ◌*◌, ◌≤◌, ◌<◌}
-use mathlib.Core.Path.{◌≡◌, refl, sym, ap, ap₂, ◌∙◌, subst}
-use mathlib.Core.Bool.{Bool, true, false, cond, not, ◌&&◌, ◌||◌}
-use mathlib.Core.List.{List, [], ◌∷◌}
+-- What a share that keeps the layout tells, and what it is after a call.
+use Prim.Native.Nat.{ℕ, ◌+◌, ◌*◌, ◌≤◌, ◌<◌}
+use mathlib.Core.Path.{◌≡◌, refl, sym, ap, ◌∙◌}
+use mathlib.Core.Bool.{true, false}
+use mathlib.Core.List.{List, []}
 use native.Mathlib.Omega.{arith}
-use native.Mathlib.Nat.{add-sub_cancel_left}
-use borrow.Author.Tests.{eq-eqb, ne_eqb, lt-ltb, le-ltb, le-leb, lt-leb, leb-false, ltb-false}
-use lib.Dec.{leb, ltb, eqb}
-use lib.ListN.{length, take, drop}
-use Rattle.basics.specs.Tests.{all}
-use Rattle.element.specs.Descriptor.{well_made}
-use Rattle.share.specs.Share.{sum_to, length_at, place_of, held_at, entry_made, share_made, holding, cleared}
-use Rattle.answer.specs.declared.Answer.TheVariants.{Done, Shape, Full, Absent}
+use borrow.Author.Tests.{leb-false, ltb-false}
+use lib.Dec.{leb, eqb}
+use lib.ListN.{length}
+use Rattle.share.specs.Share.{sum_to, length_at, place_of, held_at, holding, cleared}
+use Rattle.answer.specs.declared.Refusal.TheVariants.{Absent}
 use Rattle.answer.specs.declared.Told.{Told}
-use Rattle.answer.specs.Answer.{plain, told, is_done}
-use Rattle.answer.specs.Refuse.{refuse}
-use Rattle.answer.specs.Lent.{unless_refused}
+use Rattle.answer.specs.Answer.{plain, told_refusal, is_done}
 use Rattle.answer.proofs.Order.{none_of}
 use Rattle.answer.proofs.Lent.{all_done, kept_by, made_by_lem}
 use Rattle.share.specs.Maps.{Map, with, Call, Put, Get, Remove, Tidy, others, tests, map_answer}
@@ -25,43 +20,10 @@ use Rattle.share.proofs.Sums.{sum_same, sum_within, sum_others}
 use Rattle.share.proofs.Shares.{made_few, held_length}
 use Rattle.share.proofs.Steps.{or_left, numbered}
 
-module _ (N : ℕ) (s : List ℕ) (n k : ℕ) (e : k ≡ length_at s n) where
-  pub entry_none : k ≡ 0 → true ≡ entry_made N s n
-  entry_none z = ap (λ (t : Bool). t || well_made (held_at N s n))
-      (sym (eq-eqb (length_at s n) 0 (sym e ∙ z)))
-
-  module _ (t : ℕ) (q : t ≡ sum_to (length_at s) n) where
-    pub entry_end : Within N n s → 2 * N + t + k ≤ length s
-    entry_end w = let h = sum_within (length_at s) n N w.below in omega (arith, w.fits)
-
-    pub entry_some : (k ≡ 0 → ⊥) → (b : Bool)
-        → b ≡ well_made (take (2 * N + t + k - (2 * N + t)) (drop (2 * N + t) s)) → b ≡ entry_made N s n
-    unfolding held_at place_of
-    entry_some z b r =
-        r ∙ ap (λ i. well_made (take i (drop (2 * N + t) s))) (add-sub_cancel_left (2 * N + t) k)
-        ∙ ap₂ (λ i j. well_made (take i (drop (2 * N + j) s))) e q
-        ∙ ap (λ (t : Bool). t || well_made (take (length_at s n) (drop (2 * N + sum_to (length_at s) n) s)))
-        (sym (ne_eqb (length_at s n) 0 (λ o. z (e ∙ o))))
-
-    pub place_is : Within N n s → (2 * N + t ≡ place_of N s n) × (2 * N + t ≤ length s)
-    unfolding place_of
-    place_is w = (ap (λ i. 2 * N + i) q, let h = entry_end w in omega arith)
-
--- the sum first, then each entry
-pub share_full : (N M : ℕ) (s : List ℕ) (t : ℕ) → t ≡ sum_to (length_at s) N → M < t → false
-    ≡ share_made N M s
-unfolding share_made
-share_full N M s t e h =
-    ap (λ (b : Bool). b && all (entry_made N s) N) (sym
-    (lt-leb (sum_to (length_at s) N) M (subst (λ k. M < k) e h)))
-
-pub share_rest : (N M : ℕ) (s : List ℕ) (t : ℕ) → t ≡ sum_to (length_at s) N → t ≤ M → (b : Bool)
-    → b ≡ all (entry_made N s) N → b ≡ share_made N M s
-unfolding share_made
-share_rest N M s t e h b q =
-    q
-    ∙ ap (λ (b : Bool). b && all (entry_made N s) N)
-    (sym (le-leb (sum_to (length_at s) N) M (subst (λ k. k ≤ M) e h)))
+-- number n ends within a share whose descriptors lie in it
+pub entry_end : (N : ℕ) (s : List ℕ) (n k : ℕ) → k ≡ length_at s n → (t : ℕ) → t ≡ sum_to (length_at s) n
+    → Within N n s → 2 * N + t + k ≤ length s
+entry_end N s n k e t q w = let h = sum_within (length_at s) n N w.below in omega (arith, w.fits)
 
 -- ---- what a share that keeps the layout tells
 module _ (N M : ℕ) (s : List ℕ) (w : Whole N M s) where
@@ -74,22 +36,7 @@ module _ (N M : ℕ) (s : List ℕ) (w : Whole N M s) where
   pub whole_held : (n : ℕ) → n < N → length (held_at N s n) ≡ length_at s n
   whole_held n h = held_length N M s whole_fits n h
 
-  -- ---- ABSENT
-  pub absent_none : (n k : ℕ) → n < N → k ≡ length_at s n → k ≡ 0
-      → told Absent ≡ map_answer N M (held_at N s) (Get n)
-  unfolding told
-  absent_none n k h e z =
-      ap₂ (λ (a b : Bool). cond (a || b) (plain 14) (plain 0)) (sym (lt-leb N n h))
-      (sym (eq-eqb (length (held_at N s n)) 0 (whole_held n h ∙ sym e ∙ z)))
-
-  pub absent_held : (n k : ℕ) → n < N → k ≡ length_at s n → (k ≡ 0 → ⊥)
-      → told Done ≡ map_answer N M (held_at N s) (Get n)
-  unfolding told
-  absent_held n k h e z =
-      ap₂ (λ (a b : Bool). cond (a || b) (plain 14) (plain 0)) (sym (lt-leb N n h))
-      (sym (ne_eqb (length (held_at N s n)) 0 (λ o. z (e ∙ sym (whole_held n h) ∙ o))))
-
-  -- ---- FULL
+  -- the others, and this number's own, are all
   pub others_is : (n t k : ℕ) → n < N → t ≡ sum_to (length_at s) N → k ≡ length_at s n
       → others N (held_at N s) n + k ≡ t
   others_is n t k h et ek =
@@ -98,53 +45,12 @@ module _ (N M : ℕ) (s : List ℕ) (w : Whole N M s) where
       let r = sum_same (λ i. length (held_at N s i)) (length_at s) N whole_held in
       omega arith
 
-  pub live_le : (n t k : ℕ) → n < N → t ≡ sum_to (length_at s) N → k ≡ length_at s n → (k ≤ t) × (t - k ≤ M)
-  live_le n t k h et ek = let u = others_is n t k h et ek in let q = whole_sum in (omega arith, omega arith)
+-- what is known where ABSENT is told
+pub absent_told : told_refusal Absent ≡ plain 14
+unfolding told_refusal
+absent_told = refl
 
-  module _ (n t k : ℕ) (d : List ℕ) (h : n < N) (et : t ≡ sum_to (length_at s) N) (ek : k ≡ length_at s n)
-      (made : true ≡ well_made d) where
-    full_by : (b : Bool) → ltb M (others N (held_at N s) n + length d) ≡ b
-        → cond b (plain 13) (plain 0) ≡ map_answer N M (held_at N s) (Put n d)
-    full_by b e =
-        ap (λ (b : Bool). cond b (plain 13) (plain 0)) (sym e)
-        ∙ ap₂ (λ (x y : Bool).
-        refuse ((x, 14) ∷ (not y, 4) ∷ (ltb M (others N (held_at N s) n + length d), 13) ∷ []) (plain 0))
-        (sym (lt-leb N n h)) made
-
-    pub put_full : M - (t - k) < length d → told Full ≡ map_answer N M (held_at N s) (Put n d)
-    unfolding told
-    put_full l =
-        let u = others_is n t k h et ek in
-        let q = whole_sum in
-        full_by true (lt-ltb M (others N (held_at N s) n + length d) (omega arith))
-
-    pub put_done : length d ≤ M - (t - k) → told Done ≡ map_answer N M (held_at N s) (Put n d)
-    unfolding told
-    put_done l =
-        let u = others_is n t k h et ek in
-        let q = whole_sum in
-        full_by false (le-ltb M (others N (held_at N s) n + length d) (omega arith))
-
--- ---- the tests before these
-pub absent_above : (N M : ℕ) (m : Map) (n : ℕ) → N ≤ n → told Absent ≡ map_answer N M m (Get n)
-unfolding told
-absent_above N M m n h =
-    ap (λ (a : Bool). cond (a || eqb (length (m n)) 0) (plain 14) (plain 0)) (sym (le-leb N n h))
-
-pub put_above : (N M : ℕ) (m : Map) (n : ℕ) (d : List ℕ) → N ≤ n → told Absent ≡ map_answer N M m (Put n d)
-unfolding told
-put_above N M m n d h =
-    ap (λ (a : Bool).
-    refuse ((a, 14) ∷ (not (well_made d), 4) ∷ (ltb M (others N m n + length d), 13) ∷ []) (plain 0))
-    (sym (le-leb N n h))
-
-pub put_shape : (N M : ℕ) (m : Map) (n : ℕ) (d : List ℕ) → n < N → false ≡ well_made d
-    → told Shape ≡ map_answer N M m (Put n d)
-unfolding told
-put_shape N M m n d h e =
-    ap₂ (λ (a b : Bool).
-    refuse ((a, 14) ∷ (not b, 4) ∷ (ltb M (others N m n + length d), 13) ∷ []) (plain 0))
-    (sym (lt-leb N n h)) e
+pub ruleset absence = (whole_held, absent_told)
 
 -- where a put is not refused there is room, and where a remove is not
 pub put_fits : (N M : ℕ) (s : List ℕ) (n : ℕ) (d : List ℕ) (t : Told) → Whole N M s

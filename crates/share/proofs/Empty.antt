@@ -3,16 +3,14 @@ use Prim.Native.Nat.{ℕ, zero, suc, ◌+◌, ◌*◌, ◌≤◌, ◌<◌}
 use mathlib.Core.Path.{◌≡◌, refl, sym, ap, ap₂, subst}
 use mathlib.Core.List.{List, [], ◌++◌}
 use native.Mathlib.Omega.{arith}
-use native.Mathlib.Nat.{not-suc-le-zero, le_of_suc-le-suc}
 use lib.ListN.{length, get_or, take, drop, replicate}
+use Rattle.std.proofs.lemmas.Grind.{common_steps}
 use Rattle.share.specs.Share.{sum_to, length_at, place_of, held_at}
 use Rattle.share.specs.Maps.{empty}
 use Rattle.share.proofs.Shares.{Holds}
 
 pub get_d_zeros : (n : ℕ) (l : List ℕ) (i : ℕ) → i < n → get_or (replicate n 0 ++ l) i 0 ≡ 0
-get_d_zeros zero l i h = absurd (not-suc-le-zero h)
-get_d_zeros (suc n) l zero h = refl
-get_d_zeros (suc n) l (suc i) h = get_d_zeros n l i (le_of_suc-le-suc h)
+get_d_zeros n l i h = grind (arith, common_steps)
 
 sum_zeros : (n : ℕ) → sum_to (λ i. 0) n ≡ 0
 unfolding sum_to

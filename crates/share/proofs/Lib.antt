@@ -3,7 +3,6 @@ pub mod Shares
 pub mod Empty
 pub mod Steps
 pub mod Loops
-pub mod Slides
 pub mod Checks
 pub mod Replaced
 pub mod Settled

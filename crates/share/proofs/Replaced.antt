@@ -4,7 +4,7 @@ use Prim.Native.Nat.{ℕ, zero, suc, ◌+◌, ◌-◌, ◌*◌, ◌/◌, ◌%◌
 use mathlib.Core.Path.{◌≡◌, refl, sym, ap, ap₂, ◌∙◌, subst}
 use mathlib.Core.Bool.{Bool, true, false, cond}
 use mathlib.Core.List.{List, [], ◌++◌, append_assoc, append-nil}
-use mathlib.Core.Logic.{◌⊎◌, ⊎_elim}
+use mathlib.Core.Logic.{⊎_elim}
 use native.Mathlib.Omega.{arith}
 use native.Mathlib.Nat.{not-suc-le-zero, le_of_suc-le-suc, eq-or-lt_of_le}
 use borrow.Author.Tests.{eq-eqb, ne_eqb, eqb-true, eqb-false}
@@ -13,11 +13,12 @@ use lib.Dec.{eqb}
 use lib.ListN.{length, get_or, set, take, drop, length-set}
 use lib.Seq.{take-add, drop-drop, take-take, take-append-le, drop_at, take-length, length-take-le}
 use lib.Seq.{set-append_left, get_or-set_same, get_or-set_other, get_or-take, paste}
+use Rattle.std.specs.List.{copy_within}
 use Rattle.basics.specs.Lists.{firsts, joined}
 use Rattle.basics.proofs.Lists.{list_is}
 use Rattle.share.specs.Share.{sum_to, length_at, place_of, held_at, length_byte, share_bytes, holding}
 use Rattle.share.specs.Maps.{Map, with}
-use Rattle.share.specs.Steps.Moves.{moved, Fits}
+use Rattle.share.specs.Steps.Moves.{Fits}
 use Rattle.share.proofs.Sums.{sum_same, sum_rises, sum_within, sum_others, joined_same}
 use Rattle.share.proofs.Shares.{length_bytes, held_length, low_byte, high_byte}
 use Rattle.share.proofs.Steps.{sum_with}
@@ -184,6 +185,12 @@ module _ (N n : ℕ) (s d : List ℕ) (w : Fits N n s d) (bytes : (i : ℕ) → 
               ∙ old_byte i h (λ e. halves i n e o p)
 
 -- ---- the moves
+-- bytes written over others, as the part that they fill
+moved : (from to n : ℕ) (s : List ℕ) → paste s to (drop from s) n ≡ put_mid to n s (mid_of from n s)
+moved from to n s =
+    append_assoc (take to s) (take n (drop from s)) (drop (to + n) s)
+    ∙ ap (λ r. take to s ++ (take n (drop from s) ++ r)) (sym (drop-drop n to s))
+
 module _ (at k : ℕ) (s d mid : List ℕ) (t : ℕ) (e : length d ≡ k) (fits : at + k ≤ length s) where
   -- what lies before the new place, the new bytes, and what was moved behind them
   pasted : paste (put_mid (at + k) t s mid) at d k ≡ (take at s ++ d) ++ (mid ++ drop (at + k + t) s)
@@ -257,18 +264,19 @@ module _ (N n : ℕ) (s d : List ℕ) (w : Fits N n s d) (bytes : (i : ℕ) → 
         omega arith
 
     pub replaced : (u v x : List ℕ)
-        → u ≡ moved (2 * N + t + o) (2 * N + t + length d) (2 * N + a - (2 * N + t + o)) s
+        → u ≡ copy_within s (2 * N + t + o) (2 * N + a) (2 * N + t + length d)
         → v ≡ paste u (2 * N + t) d (length d)
         → x ≡ set (set v (2 * n) (length d % 256)) (2 * n + 1) (length d / 256)
         → x ≡ holding N (with (held_at N s) n d) s
-    unfolding moved holding share_bytes lens
+    unfolding holding share_bytes lens
     replaced u v x eu ev ex =
         assemble (take (2 * N) s) (take t (drop (2 * N) s)) d
         (mid_of (2 * N + t + o) (2 * N + a - (2 * N + t + o)) s)
         (drop (2 * N + t + length d + (2 * N + a - (2 * N + t + o))) s)
         (firsts (length_byte (with (held_at N s) n d)) (2 * N)) (joined (with (held_at N s) n d) N) v x
         (2 * n) (length d % 256) (2 * n + 1) (length d / 256)
-        (ev ∙ ap (λ l. paste l (2 * N + t) d (length d)) eu
+        (ev ∙ ap (λ l. paste l (2 * N + t) d (length d)) (eu ∙ moved (2 * N + t + o) (2 * N + t + length d)
+        (2 * N + a - (2 * N + t + o)) s)
         ∙ pasted (2 * N + t) (length d) s d (mid_of (2 * N + t + o) (2 * N + a - (2 * N + t + o)) s)
         (2 * N + a - (2 * N + t + o)) refl (omega (arith, moves_fit.1))
         ∙ ap (λ l. (l ++ d) ++ (mid_of (2 * N + t + o) (2 * N + a - (2 * N + t + o)) s ++ drop

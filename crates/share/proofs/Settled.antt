@@ -5,8 +5,6 @@ use Rattle.basics.specs.Settles.{Settles, SettlesBytes}
 use Rattle.basics.proofs.Settled.{settled}
 use Rattle.share.proofs.made.Kinds as made-kinds
 use Rattle.share.proofs.made.Reads as made
-use Rattle.share.proofs.clear_from.Kinds as clear-from-kinds
-use Rattle.share.proofs.clear_from.Reads as clear-from
 use Rattle.share.proofs.absent_refusal.Kinds as absent-refusal-kinds
 use Rattle.share.proofs.absent_refusal.Reads as absent-refusal
 use Rattle.share.proofs.tidy.Kinds as tidy-kinds
@@ -20,10 +18,6 @@ use Rattle.share.proofs.total.Reads as total
 
 pub made_settled : Settles 1 made-kinds.ps made-kinds.r made.Learnt
 made_settled κs a x y s t p q = settled p q
-
-pub clear_from_settled : SettlesBytes 1 clear-from-kinds.ps clear-from-kinds.r clear-from.Learnt
-    (λ κs e. e.0.now)
-clear_from_settled κs a x y s t p q = settled p q
 
 pub absent_refusal_settled : Settles 1 absent-refusal-kinds.ps absent-refusal-kinds.r absent-refusal.Learnt
 absent_refusal_settled κs a x y s t p q = same_answer x y _ p q

@@ -1,5 +1,5 @@
 -- A share that holds a map: what is read back from it, and that its layout is kept.
-use Prim.Native.Nat.{ℕ, zero, suc, ◌+◌, ◌-◌, ◌*◌, ◌/◌, ◌%◌, ◌≤◌, ◌<◌}
+use Prim.Native.Nat.{ℕ, ◌+◌, ◌-◌, ◌*◌, ◌/◌, ◌%◌, ◌≤◌, ◌<◌}
 use mathlib.Core.Path.{◌≡◌, refl, sym, ap, ap₂, ◌∙◌, subst}
 use mathlib.Core.Bool.{true, cond, ◌&&◌, ◌||◌}
 use mathlib.Core.List.{List, ◌++◌, append_assoc}
@@ -8,12 +8,14 @@ use borrow.Author.Tests.{eq-eqb, ne_eqb, le-leb, leb-true}
 use lib.Dec.{leb, eqb}
 use lib.ListN.{length, get_or, take, drop, replicate, length-append, length-drop, get_or-append}
 use lib.ListN.{take-append-drop}
-use lib.Seq.{take-append-le, drop-append-le, drop-append-add, length-take-le}
+use lib.Seq.{drop-append-add, length-take-le}
+use Rattle.std.proofs.lemmas.Grind.{common_steps}
 use Rattle.basics.specs.Lists.{firsts, joined}
 use Rattle.basics.specs.Tests.{all}
 use Rattle.basics.proofs.Lists.{length_firsts, get_d_firsts}
 use Rattle.basics.proofs.Tests.{both, all_of, all_at}
 use Rattle.element.specs.Descriptor.{well_made}
+use Rattle.std.proofs.lemmas.List.{length-replicate}
 use Rattle.share.specs.Share.{sum_to, length_at, place_of, held_at, entry_made, share_made, length_byte}
 use Rattle.share.specs.Share.{share_bytes, holding, cleared}
 use Rattle.share.specs.Maps.{Map}
@@ -184,14 +186,10 @@ prefix_length : (xs y z : List ℕ) (n : ℕ) → 2 * n + 1 < length xs
     → length_at (xs ++ y) n ≡ length_at (xs ++ z) n
 unfolding length_at
 prefix_length xs y z n h =
-    ap₂ (λ a b. a + 256 * b)
-    (get_or-append xs y 0 (2 * n) (omega arith) ∙ sym (get_or-append xs z 0 (2 * n) (omega arith)))
-    (get_or-append xs y 0 (2 * n + 1) h ∙ sym (get_or-append xs z 0 (2 * n + 1) h))
+    grind (arith, common_steps)
 
 within : (xs y : List ℕ) (p k : ℕ) → p + k ≤ length xs → take k (drop p (xs ++ y)) ≡ take k (drop p xs)
-within xs y p k h =
-    ap (take k) (drop-append-le p xs y (omega arith))
-    ∙ take-append-le k (drop p xs) y (subst (λ n. k ≤ n) (sym (length-drop p xs)) (omega arith))
+within xs y p k h = grind (arith, common_steps)
 
 prefix_held : (N : ℕ) (xs y z : List ℕ) → 2 * N + sum_to (length_at (xs ++ y)) N ≤ length xs → (n : ℕ)
     → n < N → held_at N (xs ++ y) n ≡ held_at N (xs ++ z) n
@@ -202,10 +200,6 @@ prefix_held N xs y z h n l =
     ∙ sym (within xs z (2 * N + sum_to (length_at (xs ++ y)) n) (length_at (xs ++ y) n) (omega arith))
     ∙ ap₂ (λ a b. take a (drop (2 * N + b) (xs ++ z))) (prefix_length xs y z n (omega arith))
     (sum_same (length_at (xs ++ y)) (length_at (xs ++ z)) n (λ i q. prefix_length xs y z i (omega arith)))
-
-pub length_replicate : (n z : ℕ) → length (replicate n z) ≡ n
-length_replicate zero z = refl
-length_replicate (suc n) z = ap suc (length_replicate n z)
 
 pub cleared_holds : (N M : ℕ) (s : List ℕ) (m : Map) → Holds N M s m
     → Holds N M (cleared (place_of N s N) s) m
@@ -224,7 +218,7 @@ cleared_holds N M s m h =
         record {
           long =
               length-append (take T s) (replicate (length s - T) 0)
-              ∙ omega (arith, t, length_replicate (length s - T) 0, h.long);
+              ∙ omega (arith, t, length-replicate {A = ℕ} (length s - T) 0, h.long);
           few = h.few;
           fine = h.fine;
           lengths =

@@ -2,63 +2,13 @@
 #![tactic(auto)]
 
 ghost use Rattle.std.specs.Prelude.{◌≡◌, ◌+◌, ◌*◌, ◌/◌, ◌%◌, ◌≤◌, length, set};
-ghost use Rattle.std.proofs.Math.Seq.{paste};
 ghost use Rattle.answer.specs.Answer.{told};
 ghost use Rattle.share.specs.Share.{held_at, holding};
 ghost use Rattle.share.specs.Maps.{with, Put, Remove, map_answer};
 ghost use Rattle.share.specs.Work.{share_after};
-ghost use Rattle.share.specs.Steps.Moves.{slide_down, slide_up, moved, Fits, Whole};
+ghost use Rattle.share.specs.Steps.Moves.{Fits, Whole};
 
-use answer::Answer;
-
-// n bytes moved down, the first first.
-fn slide_down(s: &mut [u8], from: usize, to: usize, n: usize)
-    requires { (from + n ≤ length s.old) × (to + n ≤ length s.old) }
-    ensures { s.new ≡ slide_down from to n s.old }
-{
-    let mut i = 0;
-    while i < n {
-        s[to + i] = s[from + i];
-        i += 1;
-    }
-}
-
-// n bytes moved up, the last first.
-fn slide_up(s: &mut [u8], from: usize, to: usize, n: usize)
-    requires { (from + n ≤ length s.old) × (to + n ≤ length s.old) }
-    ensures { s.new ≡ slide_up from to n s.old }
-{
-    let mut i = n;
-    while 0 < i {
-        i -= 1;
-        s[to + i] = s[from + i];
-    }
-}
-
-// n bytes moved either way.
-fn slide(s: &mut [u8], from: usize, to: usize, n: usize)
-    requires { (from + n ≤ length s.old) × (to + n ≤ length s.old) }
-    ensures { s.new ≡ moved from to n s.old }
-{
-    if to <= from {
-        slide_down(s, from, to, n);
-    } else {
-        slide_up(s, from, to, n);
-    }
-}
-
-// The bytes d, from the place `at` on.
-fn copy_in(s: &mut [u8], at: usize, d: &[u8])
-    requires { at + length d.now ≤ length s.old }
-    ensures { s.new
-        ≡ paste s.old at d.now (length d.now) }
-{
-    let mut i = 0;
-    while i < d.len() {
-        s[at + i] = d[i];
-        i += 1;
-    }
-}
+use answer::{Answer, Refusal};
 
 // The length k for number n.
 fn set_length(s: &mut [u8], n: usize, k: usize)
@@ -78,28 +28,30 @@ fn replace(s: &mut [u8], numbers: usize, n: usize, d: &[u8])
     let at = 2 * numbers + share::total(&s[..], n);
     let next = at + share::length_at(&s[..], n);
     let all = 2 * numbers + share::total(&s[..], numbers);
-    slide(s, next, at + d.len(), all - next);
-    copy_in(s, at, d);
+    let end = at + d.len();
+    s.copy_within(next..all, end);
+    s[at..end].copy_from_slice(d);
     set_length(s, n, d.len());
 }
 
 // The refusal of a put, of a share that keeps the layout.
+#[tactic(auto, using(crate::proofs::Refusals::putting), unfolding(answer::specs::Answer::told))]
 fn put_refusal(s: &[u8], numbers: usize, room: usize, n: usize, d: &[u8]) -> Answer
     requires { Whole numbers room s.now }
     ensures { told result
         ≡ map_answer numbers room (held_at numbers s.now) (Put n d.now) }
 {
     if numbers <= n {
-        return Answer::Absent;
+        return Err(Refusal::Absent);
     }
-    if descriptor::well_made(d) {
-        let live = share::total(s, numbers) - share::length_at(s, n);
-        if room - live < d.len() {
-            return Answer::Full;
-        }
-        return Answer::Done;
+    if !descriptor::well_made(d) {
+        return Err(Refusal::Shape);
     }
-    Answer::Shape
+    let live = share::total(s, numbers) - share::length_at(s, n);
+    if room - live < d.len() {
+        return Err(Refusal::Full);
+    }
+    Ok(())
 }
 
 // The descriptor d under number n.
@@ -110,12 +62,9 @@ pub fn put(s: &mut [u8], numbers: usize, room: usize, n: usize, d: &[u8]) -> Ans
     ensures bytes { s.new
         ≡ share_after numbers room s.old (Put n d.now) }
 {
-    let no = put_refusal(&s[..], numbers, room, n, d);
-    if answer::is_done(no) {
-        replace(s, numbers, n, d);
-        return no;
-    }
-    no
+    put_refusal(&s[..], numbers, room, n, d)?;
+    replace(s, numbers, n, d);
+    Ok(())
 }
 
 // What number n holds, given up.
@@ -124,11 +73,7 @@ pub fn remove(s: &mut [u8], numbers: usize, room: usize, n: usize) -> Answer
     ensures answer { told result ≡ map_answer numbers room (held_at numbers s.old) (Remove n) }
     ensures bytes { s.new ≡ share_after numbers room s.old (Remove n) }
 {
-    let no = share::absent_refusal(&s[..], numbers, room, n);
-    if answer::is_done(no) {
-        let none = [0u8; 1];
-        replace(s, numbers, n, &none[..0]);
-        return no;
-    }
-    no
+    share::absent_refusal(&s[..], numbers, room, n)?;
+    replace(s, numbers, n, &[]);
+    Ok(())
 }

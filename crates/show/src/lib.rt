@@ -2,71 +2,44 @@
 // No contract can say what is printed; the gate holds each program to its file stdout.
 #![tactic(auto)]
 
-ghost use Rattle.std.specs.Prelude.{◌<◌, length};
-
-use answer::Answer;
+use answer::{Answer, Refusal};
+use std::fmt::Display;
 use std::io;
 
 pub fn text(rt: &impl Print, s: &[u8]) -> io::Result<()> {
     rt.write_all(s)
 }
 
-fn number(rt: &impl Print, n: usize) -> io::Result<()> {
-    rt.print(n)
-}
-
-fn like_bytes(rt: &impl Print, n: usize, b: u8) -> io::Result<()> {
-    text(rt, b" ")?;
+// A run of a list: n values x.
+fn run<T: Copy + Display>(rt: &impl Print, n: usize, x: T) -> io::Result<()> {
     if 1 < n {
-        number(rt, n)?;
-        text(rt, b"*")?;
+        return print!(rt; " {n}*{x}");
     }
-    number(rt, b as usize)
+    print!(rt; " {x}")
 }
 
-// The bytes that are like the one at `from` end before i.
-fn ends(b: &[u8], from: usize, i: usize) -> bool
-    requires { from < length b.now }
-{
-    if i < b.len() {
-        return b[i] != b[from];
-    }
-    true
-}
-
-// A name, and a buffer: n*b is n bytes b.
-pub fn buffer(rt: &impl Print, name: &[u8], b: &[u8]) -> io::Result<()> {
+// A name, and a list or a buffer: n*x is n values x.
+pub fn buffer<T: Copy + PartialEq + Display>(
+    rt: &impl Print,
+    name: &[u8],
+    b: &[T],
+) -> io::Result<()> {
     text(rt, name)?;
-    let mut from = 0;
-    let mut i = 0;
-    while i < b.len() {
-        i += 1;
-        if ends(b, from, i) {
-            like_bytes(rt, i - from, b[from])?;
-            from = i;
-        }
+    let mut rest = b;
+    while let Some((&x, after)) = rest.split_first() {
+        let like = after.iter().position(|y| *y != x).unwrap_or(after.len());
+        let others = &after[like..];
+        run(rt, rest.len() - others.len(), x)?;
+        rest = others;
     }
-    text(rt, b"\n")
+    print!(rt; "\n")
 }
 
-// A coordinate of a split, which is held with 128 added.
-fn coordinate(rt: &impl Print, x: u8) -> io::Result<()> {
-    let n = x as usize;
-    if n < 128 {
-        text(rt, b" -")?;
-        return number(rt, 128 - n);
-    }
-    text(rt, b" ")?;
-    number(rt, n - 128)
-}
-
+// The number of an answer, and of a split the offset at fault.
 pub fn answered(rt: &impl Print, a: Answer) -> io::Result<()> {
     let t = answer::tell(a);
-    text(rt, b"answer ")?;
-    number(rt, t.number as usize)?;
-    if let Answer::Split(x, y) = a {
-        coordinate(rt, x)?;
-        coordinate(rt, y)?;
+    if let Err(Refusal::Split(_, _)) = a {
+        return println!(rt; "answer {} {} {}", t.number, t.dx, t.dy);
     }
-    text(rt, b"\n")
+    println!(rt; "answer {}", t.number)
 }

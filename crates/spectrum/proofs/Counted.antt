@@ -14,7 +14,7 @@ use Rattle.basics.specs.Bytes.{Bytes}
 use Rattle.basics.specs.Lists.{firsts}
 use Rattle.answer.specs.declared.Told.{Told}
 use Rattle.answer.specs.Answer.{plain, is_done}
-use Rattle.answer.specs.Refuse.{Test, refuse}
+use Rattle.answer.specs.Refuse.{refuse}
 use Rattle.answer.specs.Lent.{if_done}
 use Rattle.picture.specs.declared.Depth.TheVariants.{OneBit}
 use Rattle.picture.specs.declared.Face.TheVariants.{AsIs}
@@ -25,7 +25,6 @@ use Rattle.picture.proofs.Points.{written_same}
 use Rattle.judge.specs.declared.Padding.TheVariants.{Free}
 use Rattle.judge.specs.Tests.{Admitted, picture_tests, room_tests}
 use Rattle.judge.proofs.Admitted.{admitted, between_tests, staged}
-use Rattle.morphology.specs.Step.{Place, In}
 use Rattle.morphology.specs.Operations.{fold, flat, erode, dilate}
 use Rattle.morphology.specs.Order.{Alike, Bounded}
 use Rattle.morphology.proofs.Order.{erode_alike, dilate_alike, erode_bounded, dilate_bounded}
@@ -33,7 +32,7 @@ use Rattle.sizes.specs.Spectrum.{square, survived, survivors, count_at, spectrum
 use Rattle.sizes.proofs.Counts.{count_last, count_rest, points_most}
 use Rattle.rowruns.proofs.Points.{value_one, written_long, written_bytes, written_point}
 use Rattle.squares.proofs.Sums.{count_points}
-use Rattle.spectrum.specs.Calls.{spectrum_tests, spectrum_answer}
+use Rattle.spectrum.specs.Calls.{spectrum_answer}
 
 -- ---- what is counted: a copy, eroded, dilated
 module _ (w h k : ℕ) (s t a b c : List ℕ) (bt : Bytes t) (len : length t ≡ picture_bytes OneBit w h)

@@ -11,7 +11,7 @@ ghost use Rattle.picture.specs.Points.{value_at};
 ghost use Rattle.sizes.specs.Spectrum as defined;
 ghost use Rattle.spectrum.specs.Calls.{spectrum_answer, counts_left, scratch_left};
 
-use answer::Answer;
+use answer::{Answer, Refusal};
 use judge::Padding;
 use picture::{Depth, Face};
 
@@ -41,14 +41,12 @@ fn count_sides(w: usize, h: usize, source: &[u8], counts: &mut [u32], t: &mut [u
         ++ drop 32 counts.old }
 {
     let mut here = survivors(1, w, h, source, t);
-    let mut i = 0;
-    while i + 1 < SIDES {
+    for i in 0..SIDES - 1 {
         let next = survivors(i + 2, w, h, source, t);
         counts[i] = here - next;
         here = next;
-        i += 1;
     }
-    counts[i] = here;
+    counts[SIDES - 1] = here;
 }
 
 // The counts; and the two pictures of the scratch are left all 0.
@@ -74,9 +72,9 @@ fn list_room(n: usize) -> Answer
     ensures { told result ≡ refuse ((ltb n 32, 8) ∷ []) (plain 0) }
 {
     if n < SIDES {
-        return Answer::Room;
+        return Err(Refusal::Room);
     }
-    Answer::Done
+    Ok(())
 }
 
 // The counts of a one-bit picture's points by the side of the largest square whose opening they survive.
@@ -91,10 +89,7 @@ pub fn spectrum(w: usize, h: usize, source: &[u8], counts: &mut [u32], scratch: 
 {
     let list = list_room(counts.len());
     let half = scratch.len() / 2;
-    let no = judge::refusal(Padding::Free, Depth::OneBit, w, h, source, list, 0, half);
-    if answer::is_done(no) {
-        make(w, h, source, counts, scratch);
-        return no;
-    }
-    no
+    judge::refusal(Padding::Free, Depth::OneBit, w, h, source, list, 0, half)?;
+    make(w, h, source, counts, scratch);
+    Ok(())
 }

@@ -1,6 +1,6 @@
 -- Rows by runs of k cells and then runs of k rows: the square of side k, and the padding stays 0.
 use Prim.Native.Nat.{ℕ, ◌+◌, ◌-◌, ◌*◌, ◌/◌, ◌%◌, ◌≤◌, ◌<◌}
-use mathlib.Core.Path.{◌≡◌, refl, sym, ap, ap₂, ◌∙◌, subst}
+use mathlib.Core.Path.{◌≡◌, sym, ap, ap₂, ◌∙◌, subst}
 use mathlib.Core.Bool.{Bool, true, false}
 use mathlib.Core.List.{List}
 use mathlib.Core.Logic.{⊎_elim}
@@ -15,16 +15,16 @@ use Rattle.picture.specs.Frame.{Frame, frame, row_bytes, picture_bytes}
 use Rattle.picture.specs.Points.{value_at, value_in}
 use Rattle.picture.specs.Bytes.{Picture, written}
 use Rattle.picture.proofs.Points.{written_padding}
-use Rattle.morphology.specs.Step.{Place, In}
+use Rattle.morphology.specs.Step.{Place}
 use Rattle.morphology.specs.Operations.{flat}
 use Rattle.morphology.specs.Order.{Bounded}
 use Rattle.rows.specs.Steps.Ways.{swept_by}
 use Rattle.rows.proofs.Swept.{swept_bounded}
 use Rattle.windows.specs.Steps.Bounds.{Bound}
 use Rattle.sizes.specs.Spectrum.{rect, square}
-use Rattle.sizes.proofs.Near.{Near, rect_full, near_to, near_from, swept_small, same_near}
+use Rattle.sizes.proofs.Near.{Near, rect_full, near_to, near_from, same_near}
 use Rattle.sizes.proofs.Squares.{rect_join}
-use Rattle.rowruns.proofs.Points.{value_at_lem, value_one, same_lists, written_long, written_rest}
+use Rattle.rowruns.proofs.Points.{value_one, same_lists, written_long, written_rest}
 use Rattle.rowruns.proofs.Points.{written_bytes, written_point}
 
 module _ (grows : Bool) (k w h n : ℕ) (some : 1 ≤ w) (cells : 1 ≤ k) (en : n ≡ row_bytes OneBit w)

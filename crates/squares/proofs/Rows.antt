@@ -1,5 +1,5 @@
 -- A row by a run of cells, and the rows of a picture.
-use Prim.Native.Nat.{ℕ, ◌+◌, ◌-◌, ◌*◌, ◌/◌, ◌%◌, ◌^◌, ◌≤◌, ◌<◌}
+use Prim.Native.Nat.{ℕ, ◌+◌, ◌-◌, ◌*◌, ◌/◌, ◌%◌, ◌≤◌, ◌<◌}
 use mathlib.Core.Path.{◌≡◌, refl, sym, ap, ap₂, ◌∙◌, subst}
 use mathlib.Core.Bool.{Bool, true, false}
 use mathlib.Core.List.{List, [], ◌∷◌, ◌++◌}
@@ -11,11 +11,10 @@ use lib.ListN.{length, get_or, take, drop, replicate}
 use lib.Seq.{get_or-take, get_or-drop, drop_at, take_at}
 use Rattle.basics.specs.Bits.{bit, on}
 use Rattle.basics.specs.Lists.{firsts, joined}
-use Rattle.basics.proofs.Bits.{bit_lt, bit_not}
+use Rattle.basics.proofs.Bits.{bit_not}
 use Rattle.basics.proofs.Lists.{list_is, length_firsts}
 use Rattle.basics.proofs.Joined.{length_joined}
 use Rattle.picture.specs.declared.Depth.TheVariants.{OneBit}
-use Rattle.picture.specs.declared.Face.TheVariants.{AsIs}
 use Rattle.picture.specs.Frame.{frame, row_bytes}
 use Rattle.picture.specs.Points.{value_at, value_in}
 use Rattle.picture.specs.Bytes.{Picture, row_of, faced}
@@ -26,7 +25,6 @@ use Rattle.morphology.specs.Step.{Place, In}
 use Rattle.morphology.specs.Operations.{flat}
 use Rattle.rows.specs.Steps.Ways.{swept_by}
 use Rattle.rows.proofs.Written.{rows_written}
-use Rattle.bitrow.specs.declared.Task.{Task}
 use Rattle.bitrow.specs.Steps.Row.{swept_bits, bit_row}
 use Rattle.windows.specs.Steps.Bounds.{Bound}
 use Rattle.sizes.specs.Spectrum.{rect}

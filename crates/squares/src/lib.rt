@@ -27,11 +27,8 @@ fn copy_of(t: &[u8]) -> [u8; ROW]
         ++ replicate (128 - length t.now) 0 }
 {
     let mut c = [0u8; ROW];
-    let mut i = 0;
-    while i < t.len() {
-        c[i] = t[i];
-        i += 1;
-    }
+    let n = t.len();
+    c[..n].copy_from_slice(t);
     c
 }
 
@@ -52,7 +49,7 @@ fn run_row(grows: bool, t: &mut [u8], w: usize, k: usize)
             bin: Bin(0),
         },
     };
-    let words = [18446744073709551615u64; 1];
+    let words = [u64::MAX; 1];
     let task = Task { over: false, grows };
     bitrow::make_row(task, t, &s[..n], w, 1, Bin(0), o, &words);
 }
@@ -66,12 +63,10 @@ fn run_rows(grows: bool, t: &mut [u8], w: usize, h: usize, k: usize)
         w h t.old }
 {
     let n = picture::row_bytes(Depth::OneBit, w);
-    let mut y = 0;
-    while y < h {
+    for y in 0..h {
         let a = y * n;
         let z = a + n;
         run_row(grows, &mut t[a..z], w, k);
-        y += 1;
     }
 }
 
@@ -100,10 +95,8 @@ pub fn count(t: &[u8]) -> usize
     ensures { result ≡ fold ◌+◌ 0 (λ i. ones (get_or t.now i 0)) (length t.now) }
 {
     let mut v = 0;
-    let mut i = 0;
-    while i < t.len() {
-        v += ones_in(t[i]);
-        i += 1;
+    for b in t {
+        v += ones_in(*b);
     }
     v
 }

@@ -42,6 +42,7 @@ fn cell_places(at: &mut [u16], grows: bool, word: u64, o: usize) -> usize
 {
     let mut m = word;
     let mut count = 0;
+    // One cell or two are taken out of the word at a time: std has no iterator of them, so a `while`.
     while m != 0 {
         let c = packedline::first_cell(m);
         let b = packedline::cell_bit(c);
@@ -111,13 +112,11 @@ pub fn lacks_kind(words: &[RowWord], o: Outline, k: usize) -> bool
     requires { o.h ≤ length words.now }
     ensures { result ≡ lacks_kind o words.now k }
 {
-    let mut r = 0;
-    while r < o.h {
+    for r in 0..o.h {
         let n = packedline::level_of(words[r] & packedline::run_word(o.w));
         if kind_of(n) == k {
             return false;
         }
-        r += 1;
     }
     true
 }

@@ -81,16 +81,6 @@ pub tried : (b : Board) (first last o j : ℕ) → first ≡ first_cell b.rows �
 tried b first last o j ef el eo =
     eo ∙ ap₂ (λ x y. origin_no b.rows b.column b.row x y j) ef el
 
-pub tried_yes : (b : Board) (o j : ℕ)
-    → o ≡ origin_no b.rows b.column b.row (first_cell b.rows) (last_cell b.rows) j → o < 64
-    → ltb (origin_no b.rows b.column b.row (first_cell b.rows) (last_cell b.rows) j) 64 ≡ true
-tried_yes b o j e h = sym (ap (λ x. ltb x 64) e) ∙ lt-ltb o 64 h
-
-pub tried_no : (b : Board) (o j : ℕ)
-    → o ≡ origin_no b.rows b.column b.row (first_cell b.rows) (last_cell b.rows) j → 64 ≤ o
-    → ltb (origin_no b.rows b.column b.row (first_cell b.rows) (last_cell b.rows) j) 64 ≡ false
-tried_no b o j e h = sym (ap (λ x. ltb x 64) e) ∙ le-ltb o 64 h
-
 -- ---- forth and back
 pub forth_is : (b : Board) (w : Way) (j first last l o : ℕ) → first ≡ first_cell b.rows
     → last ≡ last_cell b.rows → l ≡ link_no b.rows first last j

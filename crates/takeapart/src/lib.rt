@@ -3,7 +3,9 @@
 // That the links are a chain for the element is not promised: the check is asked of them.
 #![tactic(auto)]
 
-ghost use Rattle.std.specs.Prelude.{◌≡◌};
+ghost use Rattle.std.specs.Prelude.{◌≡◌, ◌≤◌, ltb};
+ghost use Rattle.dividing.specs.Least.{below};
+ghost use Rattle.choosing.specs.Link.{origin_no};
 ghost use Rattle.takeapart.specs.Walk.{after, board_at, pick_from, ended, forth, back, onward};
 ghost use Rattle.takeapart.specs.Sum.{sum_byte, sum_bytes, walked};
 
@@ -31,21 +33,33 @@ pub struct Way {
     pub depth: usize,
 }
 
-// The first link from a number on that divides the board, or CHOICES.
-fn pick_from(b: Board, from: usize) -> usize
-    ensures { result ≡ pick_from b from }
+// Link j divides a board whose first and last set cells are known.
+fn divides(
+    rows: &[RowWord; MOST_CELLS],
+    column: usize,
+    row: usize,
+    first: usize,
+    last: usize,
+    j: usize,
+) -> bool
+    requires { first ≤ 4096 }
+    ensures { result ≡ ltb (origin_no rows.now column row first last j) 64 }
+{
+    choosing::origin_no(rows, column, row, first, last, j).is_some()
+}
+
+// The first link from a number on that divides the board.
+fn pick_from(b: Board, from: usize) -> Option<usize>
+    ensures { result ≡ below 512 (pick_from b from) }
 {
     let rows = b.rows;
     let first = dividing::first_cell(&rows);
     let last = dividing::last_cell(&rows);
-    let mut j = from;
-    while j < CHOICES {
-        if choosing::origin_no(&rows, b.column, b.row, first, last, j) < 64 {
-            return j;
-        }
-        j += 1;
-    }
-    j
+    (from..CHOICES).find(
+        |&j|
+            requires { first ≤ 4096 }
+        { divides(&rows, b.column, b.row, first, last, j) },
+    )
 }
 
 // What is left when a link with its first cell in column a and its origin in cell o is taken out.
@@ -68,10 +82,8 @@ fn board_at(b: Board, w: Way) -> Board
     let picks = w.picks;
     let origins = w.origins;
     let mut at = b;
-    let mut i = 0;
-    while i < w.depth {
+    for i in 0..w.depth {
         at = after(at, links[i % 6], picks[i % 6], origins[i % 6]);
-        i += 1;
     }
     at
 }
@@ -105,7 +117,7 @@ fn forth(b: Board, w: Way, j: usize) -> Way
     let mut links = w.links;
     links[at] = choosing::link_no(&rows, first, last, j);
     let mut origins = w.origins;
-    origins[at] = choosing::origin_no(&rows, b.column, b.row, first, last, j);
+    origins[at] = choosing::origin_no(&rows, b.column, b.row, first, last, j).unwrap_or(64);
     Way {
         picks,
         links,
@@ -140,11 +152,9 @@ fn onward(b: Board, w: Way) -> Way
 {
     if w.depth < 5 {
         let picks = w.picks;
-        let j = pick_from(b, picks[w.depth % 6]);
-        if j < CHOICES {
+        if let Some(j) = pick_from(b, picks[w.depth % 6]) {
             return forth(b, w, j);
         }
-        return back(w);
     }
     back(w)
 }
@@ -160,14 +170,12 @@ pub fn walk(rows: [RowWord; MOST_CELLS], column: usize, row: usize) -> Way
         origins: [0; 6],
         depth: 0,
     };
-    let mut n = 0;
-    while n < STEPS {
+    for n in 0..STEPS {
         let at = board_at(b, w);
         if ended(at) {
             return w;
         }
         w = onward(at, w);
-        n += 1;
     }
     w
 }
@@ -195,10 +203,8 @@ pub fn sum_bytes(w: Way) -> [u8; 60]
     ensures { result ≡ sum_bytes w }
 {
     let mut bytes = [0u8; 60];
-    let mut n = 0;
-    while n < 60 {
+    for n in 0..60 {
         bytes[n] = sum_byte(w, n);
-        n += 1;
     }
     bytes
 }

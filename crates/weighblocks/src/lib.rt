@@ -3,7 +3,7 @@
 #![tactic(auto)]
 
 ghost use Rattle.std.specs.Prelude.{◌≡◌, cond, ◌+◌, ◌-◌, ◌*◌, ◌/◌, ◌%◌, ◌≤◌, ◌<◌, min, eqb, length};
-ghost use Rattle.std.specs.Prelude.{get_or, replicate};
+ghost use Rattle.std.specs.Prelude.{get_or};
 ghost use Rattle.basics.specs.Lists.{firsts};
 ghost use Rattle.picture.specs.Frame.{most_pings};
 ghost use Rattle.rows.specs.Steps.Fold.{join_by};
@@ -14,17 +14,17 @@ ghost use Rattle.weighblocks.specs.Steps.Cells.{cell_block, at_cells, both_at, w
 // The longest row with 64 places beyond the frame at each end.
 pub const ROOM: usize = 1152;
 
-// A sum and a difference held to 0..255, in the form that is compiled to one instruction.
+// A sum and a difference held to 0..255, which are compiled to one instruction.
 fn more(g: u8, v: u8) -> u8
     ensures { result ≡ min 255 (v + g) }
 {
-    v + basics::lesser_byte(g, 255 - v)
+    v.saturating_add(g)
 }
 
 fn less(g: u8, v: u8) -> u8
     ensures { result ≡ v - g }
 {
-    v - basics::lesser_byte(g, v)
+    v.saturating_sub(g)
 }
 
 // The same where a value at the end stays there: 0 in a dilation, 255 in an erosion.
@@ -75,10 +75,8 @@ fn join_cell(
     ensures { result ≡ cell_block grows rises a b.now at g }
 {
     let mut c = a;
-    let mut i = 0;
-    while i < blocks::BLOCK {
+    for i in 0..blocks::BLOCK {
         c[i] = joined(grows, rises, c[i], g, b[at + i]);
-        i += 1;
     }
     c
 }
@@ -111,12 +109,9 @@ fn join_cells(
         cells.now (length cells.now)) 64 }
 {
     let mut acc = c;
-    let mut j = 0;
-    while j < cells.len() {
-        let k = cells[j];
-        let next = join_cell(grows, rises, acc, b, i + place_of(k), size_of(k));
+    for k in cells {
+        let next = join_cell(grows, rises, acc, b, i + place_of(*k), size_of(*k));
         acc = next;
-        j += 1;
     }
     acc
 }
@@ -147,39 +142,11 @@ fn join_blocks(grows: bool, t: &mut [u8], n: usize, b: &[u8], rising: &[u16], ot
         (λ m. both_at grows (get_or t.old m 0) b.now m
         rising.now others.now) t.old }
 {
-    let mut k = 0;
-    while k < n {
+    for k in 0..n {
         let i = 64 * k;
         let c = blocks::block_at(t, i);
         let d = join_both(grows, c, b, i, rising, others);
         blocks::put_block(t, i, d);
-        k += 1;
-    }
-}
-
-// n bytes from the place `at` on, as the first of a block.
-fn some_at(s: &[u8], at: usize, n: usize) -> [u8; blocks::BLOCK]
-    requires { (n ≤ 64) × (at + n ≤ length s.now) }
-    ensures { result ≡ laid 0 n (λ i. get_or s.now (at + i) 0) (replicate 64 0) }
-{
-    let mut c = [0u8; blocks::BLOCK];
-    let mut i = 0;
-    while i < n {
-        c[i] = s[at + i];
-        i += 1;
-    }
-    c
-}
-
-// The first n bytes of a block, laid over those of t from the place `at` on.
-fn put_some(t: &mut [u8], at: usize, n: usize, c: [u8; blocks::BLOCK])
-    requires { (n ≤ 64) × (at + n ≤ length t.old) }
-    ensures { t.new ≡ laid at n (λ i. get_or c i 0) t.old }
-{
-    let mut i = 0;
-    while i < n {
-        t[at + i] = c[i];
-        i += 1;
     }
 }
 
@@ -196,9 +163,9 @@ pub fn join_rest(grows: bool, t: &mut [u8], i: usize, b: &[u8], rising: &[u16], 
         return;
     }
     let n = t.len() - i;
-    let c = some_at(t, i, n);
+    let c = blocks::some_at(t, i, n);
     let d = join_both(grows, c, b, i, rising, others);
-    put_some(t, i, n, d);
+    blocks::put_some(t, i, n, d);
 }
 
 // What the cells of an element row find in a row of values b, joined into the row t.

@@ -11,9 +11,9 @@ fn join(grows: bool, a: u8, b: u8) -> u8
     ensures { result ≡ join_by grows a b }
 {
     if grows {
-        return basics::greater_byte(a, b);
+        return a.max(b);
     }
-    basics::lesser_byte(a, b)
+    a.min(b)
 }
 
 // Each byte of t joined with the one beside it,
@@ -22,10 +22,8 @@ fn join_row(grows: bool, t: &mut [u8], by: &[u8])
     requires { length by.now ≤ length t.old }
     ensures { t.new ≡ zip_in (join_by grows) t.old by.now }
 {
-    let mut i = 0;
-    while i < by.len() {
+    for i in 0..by.len() {
         t[i] = join(grows, t[i], by[i]);
-        i += 1;
     }
 }
 
@@ -35,10 +33,9 @@ fn held_more(g: u8, v: u8) -> u8
     ensures { result ≡ held_more g v }
 {
     if g < element::SIGN_BIT {
-        if 255 - g < v { 255 } else { v + g }
+        v.saturating_add(g)
     } else {
-        let down = 255 - g + 1;
-        if v < down { 0 } else { v - down }
+        v.saturating_sub(255 - g + 1)
     }
 }
 
@@ -46,10 +43,9 @@ fn held_less(g: u8, v: u8) -> u8
     ensures { result ≡ held_less g v }
 {
     if g < element::SIGN_BIT {
-        if v < g { 0 } else { v - g }
+        v.saturating_sub(g)
     } else {
-        let up = 255 - g + 1;
-        if 255 - up < v { 255 } else { v + up }
+        v.saturating_add(255 - g + 1)
     }
 }
 
@@ -83,10 +79,8 @@ fn join_weighed(grows: bool, g: u8, t: &mut [u8], by: &[u8])
     ensures { t.new
         ≡ zip_in (λ u v. join_by grows u (weigh_by grows g v)) t.old by.now }
 {
-    let mut i = 0;
-    while i < by.len() {
+    for i in 0..by.len() {
         t[i] = join(grows, t[i], weighed(grows, g, by[i]));
-        i += 1;
     }
 }
 

@@ -2,7 +2,7 @@
 -- and what then is left in its buffers.
 use Prim.Native.Nat.{ℕ, ◌-◌, ◌≤◌}
 use mathlib.Core.Path.{◌≡◌, sym, ap, ap₂, ◌∙◌}
-use mathlib.Core.Bool.{Bool, true}
+use mathlib.Core.Bool.{Bool, true, false}
 use mathlib.Core.List.{List}
 use native.Mathlib.Nat.{le_of_eq}
 use native.Mathlib.Omega.{arith}
@@ -10,7 +10,8 @@ use lib.ListN.{length, take, drop}
 use Rattle.answer.specs.declared.Told.{Told}
 use Rattle.answer.specs.Answer.{plain, is_done}
 use Rattle.answer.specs.Refuse.{refuse}
-use Rattle.answer.proofs.Lent.{made_by_lem}
+use Rattle.answer.specs.Lent.{unless_refused}
+use Rattle.answer.proofs.Lent.{kept_by, made_by_lem}
 use Rattle.basics.specs.Bytes.{Bytes}
 use Rattle.picture.specs.declared.Depth.TheVariants.{EightBit}
 use Rattle.picture.specs.Frame.{Holds}
@@ -42,6 +43,11 @@ module _ (w h : ℕ) (s d : List ℕ) (n room : ℕ) (made : Bool) (answer : Tol
     (ea : answer ≡ refuse (element_tests Free EightBit w h s made n) (plain 0)) where
   pub answer_is : answer ≡ weighted_answer w h s d room
   answer_is = ea ∙ ap₂ (λ m n. refuse (element_tests Free EightBit w h s m n) (plain 0)) em en
+
+  -- a buffer where the call is refused
+  pub refused_left : is_done answer ≡ false → (t made : List ℕ)
+      → t ≡ unless_refused (weighted_answer w h s d room) t made
+  refused_left e t made = kept_by t made _ _ answer_is e
 
   pub known : is_done answer ≡ true → Known w h s d room answer
   known e =

@@ -24,21 +24,19 @@ fn run(way: Way, w: usize, h: usize, source: &[u8], element: &[u8], target: &mut
         (length target.old) target.old }
 {
     let made = descriptor::well_weighted(element);
-    let no = judge::element_refusal(Depth::EightBit, w, h, source, made, target.len());
-    if answer::is_done(no) {
-        let o = reader::outline_at(&element[..]);
-        let words = reader::rows_at(&element[..]);
-        let grows = rows::is_growing(way);
-        let at = element::cells_end(o.w, o.h);
-        let heights = &element[at..];
-        apply::weighted(grows, source, target, w, h, o, &words, heights);
-        return no;
-    }
-    no
+    judge::element_refusal(Depth::EightBit, w, h, source, made, target.len())?;
+    let o = reader::outline_at(&element[..]);
+    let words = reader::rows_at(&element[..]);
+    let grows = rows::is_growing(way);
+    let at = element::cells_end(o.w, o.h);
+    let heights = &element[at..];
+    apply::weighted(grows, source, target, w, h, o, &words, heights);
+    Ok(())
 }
 
 // Two operations by one element:
 // the first from the source into the scratch, the other from there into the target.
+// It differs from `run` in the buffers, the room and the call: one form of both is no plainer.
 fn run_twice(
     first: Way,
     w: usize,
@@ -58,19 +56,16 @@ fn run_twice(
         ≡ weighted_left (once_by (grows_of first)) w h source.now element.now
         (min (length target.old) (length scratch.old)) scratch.old }
 {
-    let room = basics::lesser(target.len(), scratch.len());
+    let room = target.len().min(scratch.len());
     let made = descriptor::well_weighted(element);
-    let no = judge::element_refusal(Depth::EightBit, w, h, source, made, room);
-    if answer::is_done(no) {
-        let o = reader::outline_at(&element[..]);
-        let words = reader::rows_at(&element[..]);
-        let grows = rows::is_growing(first);
-        let at = element::cells_end(o.w, o.h);
-        let heights = &element[at..];
-        apply::weighted_twice(grows, source, target, scratch, w, h, o, &words, heights);
-        return no;
-    }
-    no
+    judge::element_refusal(Depth::EightBit, w, h, source, made, room)?;
+    let o = reader::outline_at(&element[..]);
+    let words = reader::rows_at(&element[..]);
+    let grows = rows::is_growing(first);
+    let at = element::cells_end(o.w, o.h);
+    let heights = &element[at..];
+    apply::weighted_twice(grows, source, target, scratch, w, h, o, &words, heights);
+    Ok(())
 }
 
 // Erosion of the w x h picture in the source by the element of a weighted descriptor, into the target.

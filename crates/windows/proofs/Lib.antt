@@ -5,3 +5,4 @@ pub mod Bounds
 pub mod Seen
 pub mod Row
 pub mod Settled
+pub mod Again

@@ -2,58 +2,38 @@
 // and what stands at several places of it, joined into a row.
 #![tactic(auto)]
 
-ghost use Rattle.std.specs.Prelude.{◌≡◌, ◌+◌, ◌-◌, ◌*◌, ◌/◌, ◌≤◌, ◌<◌, length};
+ghost use Rattle.std.specs.Prelude.{◌≡◌, ◌+◌, ◌-◌, ◌*◌, ◌/◌, ◌≤◌, ◌<◌, eqb, length};
 ghost use Rattle.basics.specs.Lists.{firsts};
-ghost use Rattle.windows.specs.Steps.Widened.{widen1_at, widen4_at, widened_by, windows_of};
+ghost use Rattle.windows.specs.Steps.Widened.{widen_by, widened_by, windows_of};
 ghost use Rattle.windows.specs.Steps.Places.{place_joined, places_joined, gathered_at, blocks_of};
 ghost use Rattle.windows.specs.Steps.Places.{joined_row, Reached};
 
-// Windows of 4 from windows of 1: one block.
-fn widened1(grows: bool, b: &[u8], i: usize) -> [u8; blocks::BLOCK]
-    requires { i + 65 ≤ length b.now }
-    ensures { result ≡ firsts (λ j. widen1_at grows b.now (i + j)) 64 }
+// Windows of 4 points from single ones, or of 16 from windows of M = 4: one block.
+fn widened<const M: usize>(grows: bool, b: &[u8], i: usize) -> [u8; blocks::BLOCK]
+    requires { i + 66 ≤ length b.now }
+    ensures { result ≡ firsts (λ j. widen_by grows (eqb M 4) b.now (i + j)) 64 }
 {
     let c = blocks::block_at(b, i);
+    if M == 4 {
+        let d = blocks::join_bits(grows, c, b, i, 4);
+        let e = blocks::join_block(grows, d, b, i + 1);
+        return blocks::join_bits(grows, e, b, i + 1, 4);
+    }
     let d = blocks::join_bits(grows, c, b, i, 1);
     let e = blocks::join_bits(grows, d, b, i, 2);
     blocks::join_bits(grows, e, b, i, 3)
 }
 
-// Windows of 16 from windows of 4: one block.
-fn widened4(grows: bool, b: &[u8], i: usize) -> [u8; blocks::BLOCK]
-    requires { i + 66 ≤ length b.now }
-    ensures { result ≡ firsts (λ j. widen4_at grows b.now (i + j)) 64 }
-{
-    let c = blocks::block_at(b, i);
-    let d = blocks::join_bits(grows, c, b, i, 4);
-    let e = blocks::join_block(grows, d, b, i + 1);
-    blocks::join_bits(grows, e, b, i + 1, 4)
-}
-
 // n blocks in place, ascending: a block reads only places from its own start on.
-fn widen1(grows: bool, b: &mut [u8], n: usize)
+// Of the constant, either is a loop of its own, which is taken into its caller.
+fn widen<const M: usize>(grows: bool, b: &mut [u8], n: usize)
     requires { 64 * n + 2 ≤ length b.old }
-    ensures { b.new ≡ widened_by (widen1_at grows) n b.old }
+    ensures { b.new ≡ widened_by (widen_by grows (eqb M 4)) n b.old }
 {
-    let mut k = 0;
-    while k < n {
+    for k in 0..n {
         let i = 64 * k;
-        let c = widened1(grows, b, i);
+        let c = widened::<M>(grows, b, i);
         blocks::put_block(b, i, c);
-        k += 1;
-    }
-}
-
-fn widen4(grows: bool, b: &mut [u8], n: usize)
-    requires { 64 * n + 2 ≤ length b.old }
-    ensures { b.new ≡ widened_by (widen4_at grows) n b.old }
-{
-    let mut k = 0;
-    while k < n {
-        let i = 64 * k;
-        let c = widened4(grows, b, i);
-        blocks::put_block(b, i, c);
-        k += 1;
     }
 }
 
@@ -65,11 +45,11 @@ pub fn windows(grows: bool, b: &mut [u8], n: usize, m: usize)
     if m <= 1 {
         return;
     }
-    widen1(grows, b, n);
+    widen::<1>(grows, b, n);
     if m <= 4 {
         return;
     }
-    widen4(grows, b, n);
+    widen::<4>(grows, b, n);
 }
 
 // A block joined with the points of b from p points past the place i on.
@@ -90,13 +70,6 @@ fn join_place(
     blocks::join_bits(grows, c, b, i + p / 8, d)
 }
 
-// A place as a number that counts.
-fn wide(p: u8) -> usize
-    ensures { result ≡ p }
-{
-    p as usize
-}
-
 // The same at all places.
 fn join_places(
     grows: bool,
@@ -110,11 +83,9 @@ fn join_places(
         (length at.now) }
 {
     let mut acc = c;
-    let mut j = 0;
-    while j < at.len() {
-        let next = join_place(grows, acc, b, i, wide(at[j]));
+    for p in at {
+        let next = join_place(grows, acc, b, i, usize::from(*p));
         acc = next;
-        j += 1;
     }
     acc
 }
@@ -126,12 +97,10 @@ fn gather(grows: bool, b: &mut [u8], n: usize, at: &[u8])
     ensures { b.new ≡ widened_by (gathered_at grows at.now) n b.old }
 {
     let c = [blocks::beyond(grows); blocks::BLOCK];
-    let mut k = 0;
-    while k < n {
+    for k in 0..n {
         let i = 64 * k;
         let e = join_places(grows, c, b, i, at);
         blocks::put_block(b, i, e);
-        k += 1;
     }
 }
 

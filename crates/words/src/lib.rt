@@ -38,10 +38,8 @@ fn few(s: &[u8], at: usize) -> u64
     ensures { result ≡ word_in s.now at }
 {
     let mut v = 0;
-    let mut i = 0;
-    while i < 8 {
+    for i in 0..8 {
         v = more(v, byte_at(s, at + i));
-        i += 1;
     }
     v
 }
@@ -121,10 +119,8 @@ fn lay(t: &mut [u8], from: usize, end: usize, v: u64)
     requires { (from ≤ end) × ((end ≤ from + 8) × (end ≤ length t.old)) }
     ensures { t.new ≡ laid from (end - from) (byte_of v) t.old }
 {
-    let mut i = 0;
-    while i < end - from {
+    for i in 0..end - from {
         t[from + i] = byte_of(v, i);
-        i += 1;
     }
 }
 

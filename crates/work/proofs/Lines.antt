@@ -7,9 +7,8 @@ use native.Mathlib.Omega.{arith}
 use borrow.Author.Tests.{lt-ltb, le-ltb, eq-eqb, ne_eqb}
 use lib.Dec.{ltb, eqb}
 use lib.ListN.{length}
-use Rattle.answer.specs.declared.Answer.{Answer}
 use Rattle.answer.specs.declared.Told.{Told}
-use Rattle.answer.specs.Answer.{told}
+use Rattle.answer.specs.Answer.{Answer, told}
 use Rattle.text.specs.Text.{refused_line}
 use Rattle.text.proofs.Longest.{refused_most}
 use Rattle.work.specs.Prints.{most_refused, refusal_of, over}

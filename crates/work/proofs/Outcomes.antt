@@ -4,9 +4,8 @@ use mathlib.Core.Path.{◌≡◌, sym, ap, ◌∙◌}
 use mathlib.Core.Bool.{true, false, cond}
 use mathlib.Core.List.{List}
 use lib.ListN.{length}
-use Rattle.answer.specs.declared.Answer.{Answer}
 use Rattle.answer.specs.declared.Told.{Told}
-use Rattle.answer.specs.Answer.{told, is_done}
+use Rattle.answer.specs.Answer.{Answer, told, is_done}
 use Rattle.answer.proofs.Lent.{kept_by, made_by_lem}
 use Rattle.element.specs.Descriptor.{shape_in}
 use Rattle.work.specs.declared.Operation.{Operation}

@@ -7,12 +7,12 @@ use native.Mathlib.Omega.{arith}
 use borrow.Author.Tests.{lt-ltb, le-ltb, ltb-false, not-false}
 use lib.Dec.{ltb, lit<}
 use lib.ListN.{length}
-use Rattle.answer.specs.declared.Answer.{Answer}
-use Rattle.answer.specs.declared.Answer.TheVariants.{Done, Size, Source, Pad, Shape}
-use Rattle.answer.specs.declared.Answer.TheVariants.{Overlap, Chain, Split, Room, Form, Job, Netpbm}
-use Rattle.answer.specs.declared.Answer.TheVariants.{Marker, Full, Absent, Retired, Nest, Book, NoChain}
+use Rattle.std.specs.Prelude.{Ok, Err}
+use Rattle.answer.specs.declared.Refusal.TheVariants.{Size, Source, Pad, Shape}
+use Rattle.answer.specs.declared.Refusal.TheVariants.{Overlap, Chain, Split, Room, Form, Job, Netpbm}
+use Rattle.answer.specs.declared.Refusal.TheVariants.{Marker, Full, Absent, Retired, Nest, Book, NoChain}
 use Rattle.answer.specs.declared.Told.{Told}
-use Rattle.answer.specs.Answer.{told, plain, is_done}
+use Rattle.answer.specs.Answer.{Answer, told, told_refusal, plain, is_done}
 use Rattle.answer.specs.Refuse.{refuse}
 use Rattle.answer.specs.Lent.{if_done}
 use Rattle.answer.proofs.Order.{Numbered, passed_all, none_refuses}
@@ -26,7 +26,7 @@ use Rattle.ech.specs.declared.Header.{Header}
 use Rattle.ech.specs.File.{depth_of, kind_of, reported_kind, pings_of, bins_of, body_of}
 use Rattle.ech.specs.ReadWrite.{file_tests, picture_of, read_answer, read_target, GivenBack}
 use Rattle.ech.proofs.Judging.{file_admitted}
-use Rattle.ech.proofs.Reading.{own_kind, own_pings, own_bins, own_depth}
+use Rattle.ech.proofs.Reading.{own_depth}
 use Rattle.ech.proofs.RoundTrip.{read_admitted}
 use Rattle.text.specs.Text.{most_text}
 use Rattle.work.specs.Work.{longest, text_tests, work_tests, shortest, work_answer}
@@ -60,28 +60,26 @@ module _ (f : List ℕ) (room n : ℕ) (shape : Answer) where
       last : refuse (text_tests f n) (plain 0) ≡ all
       last = sym (ap (λ b. cond b (refuse (text_tests f n) (plain 0)) a) read) ∙ onward
 
-      pub refused_room : n < k → told Room ≡ all
-      unfolding told
+      pub refused_room : n < k → told_refusal Room ≡ all
+      unfolding told_refusal
       refused_room l =
           sym (ap (λ b. cond b (plain 8) (plain 0)) (lt-ltb n (longest f) (subst (λ m. n < m) ek l))) ∙ last
 
-      pub nothing_refused : k ≤ n → told Done ≡ all
-      unfolding told
+      pub nothing_refused : k ≤ n → plain 0 ≡ all
       nothing_refused l =
           sym (ap (λ b. cond b (plain 8) (plain 0)) (le-ltb n (longest f) (subst (λ m. m ≤ n) ek l))) ∙ last
 
 -- the longest text by the numbers that were read
 pub longest_own : (f : List ℕ) (room : ℕ) (r : Header)
-    → GivenBack (read_answer f room) (reported_kind f) (pings_of f) (bins_of f) r
-    → is_done (told r.answer) ≡ true
+    → GivenBack (read_answer f room) (reported_kind f) (pings_of f) (bins_of f) (Ok r)
     → (depth : Depth) (k : ℕ) → depth ≡ depth_of r.kind → k ≡ most_text depth r.w r.h r.kind
     → k ≡ longest f
-longest_own f room r g e depth k ed ek =
+longest_own f room r g depth k ed ek =
     ek
-    ∙ ap₂ (λ (d : Depth) (w : ℕ). most_text d w r.h r.kind) (own_depth f [] room r g e depth ed)
-    (own_pings f [] room r g e)
-    ∙ ap₂ (λ h kind. most_text (depth_of (kind_of f)) (pings_of f) h kind) (own_bins f [] room r g e)
-    (own_kind f [] room r g e)
+    ∙ ap₂ (λ (d : Depth) (w : ℕ). most_text d w r.h r.kind) (own_depth f [] room r g depth ed)
+    g.pings
+    ∙ ap₂ (λ h kind. most_text (depth_of (kind_of f)) (pings_of f) h kind) g.bins
+    g.kind
 
 -- the code's answer is that of the whole list, with the shortest work buffer
 pub answer_is : (d f p r m t : List ℕ) (shape said : Told) (k room : ℕ) → k ≡ min (length r) (length m)
@@ -131,23 +129,23 @@ read_taken f room n p l t =
 
 -- every answer's number has at most two digits
 pub number_few : (a : Answer) → (told a).number ≤ 99
-unfolding told plain
-number_few Done = omega arith
-number_few Size = omega arith
-number_few Source = omega arith
-number_few Pad = omega arith
-number_few Shape = omega arith
-number_few Overlap = omega arith
-number_few Chain = omega arith
-number_few (Split x y) = omega arith
-number_few Room = omega arith
-number_few Form = omega arith
-number_few Job = omega arith
-number_few Netpbm = omega arith
-number_few Marker = omega arith
-number_few Full = omega arith
-number_few Absent = omega arith
-number_few Retired = omega arith
-number_few Nest = omega arith
-number_few Book = omega arith
-number_few NoChain = omega arith
+unfolding told told_refusal plain
+number_few (Ok x) = omega arith
+number_few (Err Size) = omega arith
+number_few (Err Source) = omega arith
+number_few (Err Pad) = omega arith
+number_few (Err Shape) = omega arith
+number_few (Err Overlap) = omega arith
+number_few (Err Chain) = omega arith
+number_few (Err (Split x y)) = omega arith
+number_few (Err Room) = omega arith
+number_few (Err Form) = omega arith
+number_few (Err Job) = omega arith
+number_few (Err Netpbm) = omega arith
+number_few (Err Marker) = omega arith
+number_few (Err Full) = omega arith
+number_few (Err Absent) = omega arith
+number_few (Err Retired) = omega arith
+number_few (Err Nest) = omega arith
+number_few (Err Book) = omega arith
+number_few (Err NoChain) = omega arith

@@ -1,6 +1,6 @@
 -- A job that nothing refuses, step by step.
 use Prim.Native.Nat.{ℕ, ◌+◌, ◌≤◌, ◌<◌}
-use mathlib.Core.Path.{◌≡◌, sym, ap, ap₂, ◌∙◌, subst}
+use mathlib.Core.Path.{◌≡◌, refl, sym, ap, ap₂, ◌∙◌, subst}
 use mathlib.Core.Bool.{true, cond}
 use mathlib.Core.List.{List, []}
 use native.Mathlib.Omega.{arith}
@@ -8,7 +8,10 @@ use native.Mathlib.Nat.{le_of_eq}
 use lib.ListN.{length, take}
 use lib.Seq.{get_or-drop}
 use Rattle.basics.specs.Bytes.{Bytes}
+use Rattle.std.specs.Prelude.{Ok, Err, Result, IsOk}
+use Rattle.answer.specs.declared.Refusal.{Refusal}
 use Rattle.answer.specs.Answer.{told, is_done}
+use Rattle.answer.proofs.Variants.{refused_undone}
 use Rattle.picture.specs.declared.Depth.{Depth}
 use Rattle.picture.specs.Frame.{top, sized_frame, picture_bytes, Holds}
 use Rattle.picture.specs.Points.{value_at}
@@ -24,7 +27,7 @@ use Rattle.element.specs.Record.{element_of, shape_of}
 use Rattle.ech.specs.declared.Header.{Header}
 use Rattle.ech.specs.File.{head_bytes, depth_of, face_of, kind_of, reported_kind, pings_of, bins_of, body_of}
 use Rattle.ech.specs.ReadWrite.{picture_of, read_answer, read_target, GivenBack}
-use Rattle.ech.proofs.Reading.{own_kind, own_pings, own_bins, own_depth}
+use Rattle.ech.proofs.Reading.{own_depth}
 use Rattle.text.specs.Text.{text_of, most_text}
 use Rattle.work.specs.declared.Operation.{Operation}
 use Rattle.work.specs.Work.{shortest, operated, middle_in}
@@ -39,11 +42,22 @@ same : {A : Type 0} (X : Depth → ℕ → ℕ → A) (d d' : Depth) (w w' h h' 
     → X d w h ≡ X d' w' h'
 same X d d' w w' h h' ed ew eh = ap₂ (λ a b. X a b h) ed ew ∙ ap (λ b. X d' w' b) eh
 
+-- a result that is told done has a value
+done_value : {A : Type 0} (r : Result A Refusal) → is_done (told r) ≡ true → IsOk r
+unfolding told
+done_value (Ok x) e = refl
+done_value (Err why) e = let z = sym e ∙ refused_undone why in cc
+
+-- a file that is taken is read
+pub read_value : (f : List ℕ) (room n : ℕ) (p : List ℕ) → room ≤ length p → Taken f room n
+    → (r : Result Header Refusal) → told r ≡ read_answer f (length p) → IsOk r
+read_value f room n p l t r e = done_value r (ap is_done e ∙ (read_taken f room n p l t).0)
+
 -- the file f that was read into p, which gave back its numbers, left u and has a picture of n bytes
 pub record Lent (f p r m t : List ℕ) (back : Header) (depth : Depth) (u : List ℕ) (n : ℕ) : Type 0 where
   pub bytes : Bytes f
   pub taken : Taken f (shortest p r m) (length t)
-  pub given : GivenBack (read_answer f (length p)) (reported_kind f) (pings_of f) (bins_of f) back
+  pub given : GivenBack (read_answer f (length p)) (reported_kind f) (pings_of f) (bins_of f) (Ok back)
   pub deep : depth ≡ depth_of back.kind
   pub read : u ≡ read_target f p
   pub size : n ≡ cond (sized_frame back.w back.h) (picture_bytes depth back.w back.h) 0
@@ -60,20 +74,17 @@ module _ {f p r m t : List ℕ} {back : Header} {depth : Depth}
       × (read_target f p ≡ written (depth_of (kind_of f)) (picture_of f) (pings_of f) (bins_of f) p)
   into = read_taken f (shortest p r m) (length t) p (omega arith) l.taken
 
-  done : is_done (told back.answer) ≡ true
-  done = ap is_done l.given.answer ∙ into.0
-
   depth_is : depth ≡ depth_of (kind_of f)
-  depth_is = own_depth f p (length p) back l.given done depth l.deep
+  depth_is = own_depth f p (length p) back l.given depth l.deep
 
   kind_is : back.kind ≡ reported_kind f
-  kind_is = own_kind f p (length p) back l.given done
+  kind_is = l.given.kind
 
   -- a fact on the file's own numbers is one on those that were read
   own : {A : Type 0} (X : Depth → ℕ → ℕ → A) → X depth w h ≡ X (depth_of (kind_of f)) (pings_of f) (bins_of f)
   own X =
       same X depth (depth_of (kind_of f)) w (pings_of f) h (bins_of f) depth_is
-      (own_pings f p (length p) back l.given done) (own_bins f p (length p) back l.given done)
+      l.given.pings l.given.bins
 
   sized : sized_frame w h ≡ true
   sized = own (λ _ w h. sized_frame w h) ∙ l.taken.admitted.sized

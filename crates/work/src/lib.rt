@@ -16,7 +16,8 @@ ghost use Rattle.work.specs.Work.{text_tests, shortest, work_answer, operated, m
 ghost use Rattle.work.specs.Prints.{refusal_of, over, Carried};
 ghost use Rattle.work.specs.Steps.Taken.{Taken, Worked};
 
-use answer::Answer;
+use answer::{Answer, Refusal};
+use ech::Header;
 use element::{Outline, RowWord};
 use picture::Depth;
 
@@ -24,7 +25,7 @@ use picture::Depth;
 const MOST_REFUSED: usize = 11;
 
 // What is asked for.
-#[derive(Clone, Copy)]
+#[derive(Clone, Copy, Debug, PartialEq, Eq)]
 pub enum Operation {
     Erode,
     Dilate,
@@ -33,7 +34,8 @@ pub enum Operation {
 }
 
 // What came of it: the answer, and how many bytes at the start of the text are printed.
-#[derive(Clone, Copy)]
+// A refusal prints too, so that both are there whatever is answered.
+#[derive(Clone, Copy, Debug, PartialEq, Eq)]
 pub struct Outcome {
     pub answer: Answer,
     pub printed: usize,
@@ -46,22 +48,17 @@ fn refusal(shape: Answer, file: &[u8], room: usize, n: usize) -> Answer
         ≡ if_done (told shape)
         (refuse (file_tests file.now room ++ text_tests file.now n) (plain 0)) }
 {
-    if !answer::is_done(shape) {
-        return shape;
-    }
-    let head = ech::judge_ech(file, room);
-    let a = head.answer;
-    if !answer::is_done(a) {
-        return a;
-    }
+    shape?;
+    let head = ech::judge_ech(file, room)?;
     let depth = ech::depth_of(head.kind);
     if n < text::most_len(depth, head.w, head.h, head.kind) {
-        return Answer::Room;
+        return Err(Refusal::Room);
     }
-    Answer::Done
+    Ok(())
 }
 
 // The operation, by an element that was read.
+#[tactic(auto, using(apply::proofs::Applied::ready))]
 fn operate(
     op: Operation,
     depth: Depth,
@@ -111,10 +108,7 @@ fn work_out(
         text.old result source.new res.new
         scratch.new text.new }
 {
-    let head = ech::read_ech(file, source);
-    let kind = head.kind;
-    let w = head.w;
-    let h = head.h;
+    let Header { kind, w, h } = ech::read_ech(file, source).unwrap();
     let depth = ech::depth_of(kind);
     let n = picture::picture_bytes(depth, w, h);
     operate(op, depth, w, h, &source[..n], o, words, res, scratch);
@@ -137,16 +131,16 @@ fn say(no: Answer, text: &mut [u8]) -> usize
     text::put_refused(text, number)
 }
 
-// A refusal, printed.
+// A refusal, printed: of any answer, as its clause `answer_value` has it.
 pub fn refused(no: Answer, text: &mut [u8]) -> Outcome
     ensures answer_value { (result.answer ≡ no)
         × (result.printed ≡ length (refusal_of (told no) (length text.old))) }
     ensures text_after { text.new ≡ over (refusal_of (told no) (length text.old)) text.old }
 {
-    let n = say(no, text);
+    let printed = say(no, text);
     Outcome {
         answer: no,
-        printed: n,
+        printed,
     }
 }
 
@@ -169,18 +163,18 @@ pub fn carry_out(
         res.new scratch.new
         text.new }
 {
-    let room = basics::lesser(source.len(), basics::lesser(res.len(), scratch.len()));
+    let room = source.len().min(res.len().min(scratch.len()));
     let made = descriptor::well_made(descriptor);
     let shape = judge::shape_answer(made);
-    let no = refusal(shape, file, room, text.len());
-    if answer::is_done(no) {
-        let e = reader::element_at(descriptor);
-        let o = e.outline;
-        let n = work_out(op, o, &e.rows, file, source, res, scratch, text);
-        return Outcome {
-            answer: no,
-            printed: n,
-        };
+    match refusal(shape, file, room, text.len()) {
+        Ok(()) => {
+            let e = reader::element_at(descriptor);
+            let printed = work_out(op, e.outline, &e.rows, file, source, res, scratch, text);
+            Outcome {
+                answer: Ok(()),
+                printed,
+            }
+        }
+        Err(why) => refused(Err(why), text),
     }
-    refused(no, text)
 }

@@ -7,7 +7,6 @@ use Rattle.picture.specs.Frame.{row_bytes}
 use lib.ListN.{length}
 use Prim.Native.Nat.{◌+◌, ◌*◌, ◌≤◌}
 use mathlib.Core.Path.{sym}
-use native.Mathlib.Omega.{arith}
 use Rattle.bitrow.proofs.add_row.Goals as goal
 use Rattle.bitrow.proofs.add_row.Goals.{Then-v-h}
 
@@ -16,15 +15,6 @@ room : (c : Then-v-h) → let a = c.args in
 room c = row_fits (length c.args.t.now) (row_bytes OneBit c.args.w) _ c.args.h
     (length c.args.s.now) c.requires.t_len.0 c.if-v-h.true c.requires.ready.source
 
-pub overflow_mul-a : goal.overflow_mul-a
-overflow_mul-a c = omega (arith, room (goal.at.overflow_mul-a c).Then-v-h)
-
-pub overflow_add-z : goal.overflow_add-z
-overflow_add-z c = omega (arith, room (goal.at.overflow_add-z c).Then-v-h)
-
-pub slice_bounds-line-end : goal.slice_bounds-line-end
-slice_bounds-line-end c = room (goal.at.slice_bounds-line-end c).Then-v-h
-
 pub returns-then-k : goal.returns-then-k
 returns-then-k c =
     let a = c.args in
@@ -32,9 +22,6 @@ returns-then-k c =
     c.source_row-v.ensures _ _ _ c.if-v-h.true
     c.masked-word.ensures
     (sym c.if-k.true) c.line.ensures
-
-pub slice_bounds-line-end-then-v-h : goal.slice_bounds-line-end-then-v-h
-slice_bounds-line-end-then-v-h c = room (goal.at.slice_bounds-line-end-then-v-h c).Then-v-h
 
 pub returns-then-v-h : goal.returns-then-v-h
 returns-then-v-h c =

@@ -4,13 +4,10 @@
 -- end.
 use Rattle.bitrow.proofs.Row.{Made}
 use lib.ListN.{length}
-use Prim.Native.Nat.{◌≤◌, ◌-◌}
+use Prim.Native.Nat.{◌≤◌}
 use mathlib.Core.Path.{◌≡◌}
 use Rattle.bitrow.proofs.make_row.Given as goal
 
 abbrev pub invariant-loop-r : goal.invariant-loop-r
 invariant-loop-r l =
     (l.r ≤ l.o.h) × (length l.t ≡ length l.initial.t) × Made l.k l.s l.w l.h l.o l.words l.y.0 l.r l.t
-
-abbrev pub decreases-loop-r : goal.decreases-loop-r
-decreases-loop-r l = l.o.h - l.r

@@ -6,5 +6,5 @@ use Rattle.bitsource.proofs.pad.Goals as goal
 pub returns : goal.returns
 returns c =
     let a = c.args in
-    padded_made a.grows a.at a.s.now a.w _ _ _ c.requires.pad_fit.empty
+    padded_made a.grows a.at a.s.now a.w _ _ _ c.requires.fit.empty
     c.copy_over.ensures c.blot.ensures

@@ -12,6 +12,3 @@ abbrev pub invariant-loop-y : goal.invariant-loop-y
 invariant-loop-y l =
     (l.y ≤ l.h) × (length l.t ≡ length l.initial.t)
     × (l.t ≡ rows_written OneBit (swept_bits l.k l.s l.w l.h l.o l.words) l.w l.initial.t l.y)
-
-abbrev pub decreases-loop-y : goal.decreases-loop-y
-decreases-loop-y l = l.h - l.y

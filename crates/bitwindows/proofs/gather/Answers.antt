@@ -24,9 +24,6 @@ loop-j-preserved c =
           c.four-c.ensures p.ensures,
     )
 
-pub shape_of-b : goal.shape_of-b
-shape_of-b c = c.loop-j.invariant.1
-
 pub returns : goal.returns
 returns c =
     let a = c.args in

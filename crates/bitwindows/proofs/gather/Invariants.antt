@@ -5,7 +5,7 @@ use Rattle.windows.specs.Steps.Widened.{widened_by}
 use Rattle.windows.specs.Steps.Places.{gathered_at}
 use lib.ListN.{length}
 use mathlib.Core.List.{[], ◌∷◌}
-use Prim.Native.Nat.{◌-◌, ◌≤◌}
+use Prim.Native.Nat.{◌≤◌}
 use mathlib.Core.Path.{◌≡◌}
 use Rattle.bitwindows.proofs.gather.Given as goal
 
@@ -13,6 +13,3 @@ abbrev pub invariant-loop-j : goal.invariant-loop-j
 invariant-loop-j l =
     (l.j ≤ l.k) × (length l.b ≡ length l.initial.b)
     × (l.b ≡ widened_by (gathered_at l.grows (l.p ∷ l.q ∷ l.r ∷ l.s ∷ [])) l.j l.initial.b)
-
-abbrev pub decreases-loop-j : goal.decreases-loop-j
-decreases-loop-j l = l.k - l.j

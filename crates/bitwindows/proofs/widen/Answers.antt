@@ -1,5 +1,5 @@
-use Rattle.bitwindows.proofs.Again.{widen_ahead}
-use Rattle.bitwindows.specs.Steps.Widened.{widen_by}
+use Rattle.windows.proofs.Again.{widen_ahead}
+use Rattle.windows.specs.Steps.Widened.{widen_by}
 use Rattle.windows.proofs.InPlace.{widened_none, widened_more}
 use Rattle.windows.specs.Steps.Widened.{widened_by}
 use mathlib.Core.Path.{◌≡◌, refl, ap, ◌∙◌}
@@ -21,9 +21,6 @@ loop-j-preserved c =
           l.j (omega arith) l.invariant.2 _ _ p.new.t refl
           c.widened-c.ensures p.ensures,
     )
-
-pub shape_of-b : goal.shape_of-b
-shape_of-b c = c.loop-j.invariant.1
 
 pub returns : goal.returns
 returns c =

@@ -1,6 +1,6 @@
 -- Stands on three joins of the block as it was, with the points 1, 2 and 3 further on, or 4, 8 and 12.
 -- Byte by byte that is the definition: `wide_block`, `wider_block`.
-use Rattle.bitwindows.proofs.Again.{wide_block, wider_block}
+use Rattle.windows.proofs.Again.{wide_block, wider_block}
 use Rattle.bitwindows.proofs.widened.Goals as goal
 
 pub returns-then-again : goal.returns-then-again

@@ -1,6 +1,6 @@
 -- Invariant: i bytes of the block are joined, the others as they came. What falls: the bytes left.
 -- What a turn reads of the block it has not written yet.
-use Prim.Native.Nat.{◌+◌, ◌-◌, ◌≤◌}
+use Prim.Native.Nat.{◌+◌, ◌≤◌}
 use Rattle.blocks.specs.Steps.Joins.{join_packed}
 use Rattle.blocks.specs.Steps.Laid.{laid}
 use lib.ListN.{length, get_or}
@@ -12,6 +12,3 @@ invariant-loop-i l =
     (l.i ≤ 64) × (length l.c ≡ 64) × (length l.initial.c ≡ 64)
     × (l.c ≡ laid 0 l.i (λ i. join_packed l.grows (get_or l.initial.c i 0) (get_or l.b (l.at + i) 0))
     l.initial.c)
-
-abbrev pub decreases-loop-i : goal.decreases-loop-i
-decreases-loop-i l = 64 - l.i

@@ -24,9 +24,6 @@ loop-i-preserved c =
           (block_still n f a.t.now l.t l.i refl l.invariant.2 (omega arith))),
     )
 
-pub shape_of-t : goal.shape_of-t
-shape_of-t c = c.loop-i.invariant.1
-
 pub returns : goal.returns
 returns c =
     let a = c.args in

@@ -7,6 +7,3 @@ use Rattle.board.proofs.row.Given as goal
 
 abbrev pub invariant-loop-r : goal.invariant-loop-r
 invariant-loop-r l = (l.r ≤ l.h) × (l.a ≡ row_of l.board l.cells l.w l.y.0 l.r)
-
-abbrev pub decreases-loop-r : goal.decreases-loop-r
-decreases-loop-r l = l.h - l.r

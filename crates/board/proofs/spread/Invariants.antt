@@ -7,6 +7,3 @@ use Rattle.board.proofs.spread.Given as goal
 
 abbrev pub invariant-loop-c : goal.invariant-loop-c
 invariant-loop-c l = (l.c ≤ l.w) × (l.a ≡ spread_of l.acc l.line l.cells l.c)
-
-abbrev pub decreases-loop-c : goal.decreases-loop-c
-decreases-loop-c l = l.w - l.c

@@ -13,6 +13,3 @@ abbrev pub invariant-loop-y : goal.invariant-loop-y
 invariant-loop-y l =
     (l.y ≤ sums) × (l.next ≡ firsts (cut_row l.board l.cells l.w l.h l.m l.cut) l.y
     ++ replicate (sums - l.y) 0)
-
-abbrev pub decreases-loop-y : goal.decreases-loop-y
-decreases-loop-y l = sums - l.y

@@ -1,45 +1,29 @@
--- Stands on book_made and share's put: the party's share is a part of the bytes that keep the layout.
+-- Stands on share_in and share's put: the party's share is a part of the bytes that keep the layout.
 -- Bytes that break it are left as they were.
-use mathlib.Core.Path.{◌≡◌, sym, ◌∙◌}
-use mathlib.Core.Bool.{true, false}
+use Rattle.std.proofs.lemmas.Result.{err_from_is_err_and}
 use Rattle.share.specs.Maps.{Put}
-use Rattle.book.specs.Book.{book_made}
-use Rattle.book.proofs.Calls.{part_whole, part_end, call_answer, call_after}
-use Rattle.book.proofs.Calls.{broken_answer, broken_after}
+use Rattle.book.proofs.Calls.{part_whole, part_end, call_answer, call_after, unplaced_told, unplaced_after}
 use Rattle.book.proofs.put.Goals as goal
-use Rattle.book.proofs.put.Goals.{Else-book_made, Then-book_made}
 
-kept : (c : Then-book_made) → book_made c.args.book.now ≡ true
-kept c = sym c.book_made.ensures ∙ c.if-book_made.true
-
-broken : (c : Else-book_made) → book_made c.args.book.now ≡ false
-broken c = sym c.book_made.ensures ∙ c.if-book_made.false
+pub returns-in_err-at : goal.returns-in_err-at
+returns-in_err-at c =
+    let a = c.args in record {
+      answer = unplaced_told a.book.now a.party _ c.share_in.ensures _ c.in_err-at.was _
+          (err_from_is_err_and c.from_residual.result c.from_residual.ensures.1) (Put a.n a.d.now);
+      bytes = unplaced_after a.book.now a.party _ c.share_in.ensures _ c.in_err-at.was (Put a.n a.d.now);
+    }
 
 pub slice_bounds-put-end : goal.slice_bounds-put-end
-slice_bounds-put-end c =
-    let a = c.args in
-    part_end a.book.now a.party _ c.share_at-at.ensures.0
-    (kept (goal.at.slice_bounds-put-end c).Then-book_made)
+slice_bounds-put-end c = part_end c.args.book.now c.args.party _ c.share_in.ensures _ c.in_ok-at.was
 
 pub put-requires : goal.put-requires
-put-requires c =
-    let a = c.args in
-    part_whole a.book.now a.party _ c.share_at-at.ensures.0 (kept (goal.at.put-requires c).Then-book_made)
-
-pub returns-then-book_made : goal.returns-then-book_made
-returns-then-book_made c =
-    let a = c.args in record {
-      answer = call_answer a.book.now a.party _ c.share_at-at.ensures.0
-          (kept (goal.at.returns-then-book_made c).Then-book_made) (Put a.n a.d.now)
-          _ c.put.ensures.answer;
-      bytes = call_after a.book.now a.party _ c.share_at-at.ensures.0
-          (kept (goal.at.returns-then-book_made c).Then-book_made) (Put a.n a.d.now)
-          _ c.put.ensures.bytes;
-    }
+put-requires c = part_whole c.args.book.now c.args.party _ c.share_in.ensures _ c.in_ok-at.was
 
 pub returns : goal.returns
 returns c =
     let a = c.args in record {
-      answer = broken_answer a.book.now a.party (Put a.n a.d.now) (broken c);
-      bytes = broken_after a.book.now a.party (Put a.n a.d.now) (broken c);
+      answer = call_answer a.book.now a.party _ c.share_in.ensures _ c.in_ok-at.was (Put a.n a.d.now)
+          _ c.put.ensures.answer;
+      bytes = call_after a.book.now a.party _ c.share_in.ensures _ c.in_ok-at.was (Put a.n a.d.now)
+          _ c.put.ensures.bytes;
     }

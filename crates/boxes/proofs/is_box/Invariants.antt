@@ -10,7 +10,4 @@ use mathlib.Core.Path.{◌≡◌}
 use Rattle.boxes.proofs.is_box.Given as goal
 
 abbrev pub invariant-loop-r : goal.invariant-loop-r
-invariant-loop-r l = (l.r ≤ l.o.h) × (all (λ r. eqb (get_or l.words r 0) (run_word l.o.w)) l.r ≡ true)
-
-abbrev pub decreases-loop-r : goal.decreases-loop-r
-decreases-loop-r l = l.o.h - l.r
+invariant-loop-r l = (l.r ≤ l.fn.o.h) × (all (λ r. eqb (get_or l.words r 0) (run_word l.fn.o.w)) l.r ≡ true)

@@ -11,6 +11,3 @@ invariant-loop-i l =
     (l.i ≤ length l.initial.row) × (length l.row ≡ length l.initial.row)
     × (l.row ≡ laid 0 l.i (λ i. get_or l.t
     (l.at + i) 0) l.initial.row)
-
-abbrev pub decreases-loop-i : goal.decreases-loop-i
-decreases-loop-i l = length l.initial.row - l.i

@@ -41,25 +41,25 @@ pub overflow_sub-end : goal.overflow_sub-end
 overflow_sub-end c =
     let a = c.args in
     lead_lo _ (length a.one.now) _ a.h a.o a.high a.y a.z _ _ _ _ _ a.grows c.requires
-    c.before-above.ensures c.past-lo.ensures c.lesser-end.ensures
+    c.before-above.ensures c.saturating_sub-lo.ensures c.lesser-end.ensures
     c.lesser-last.ensures
-    c.past.ensures
+    c.saturating_sub.ensures
 
 pub pair-requires : goal.pair-requires
 pair-requires c =
     let a = c.args in
     lead_fit _ (length a.one.now) _ a.h a.o a.high a.y a.z _ _ _ _ _ a.grows c.requires
-    c.before-above.ensures c.past-lo.ensures c.lesser-end.ensures
+    c.before-above.ensures c.saturating_sub-lo.ensures c.lesser-end.ensures
     c.lesser-last.ensures
-    c.past.ensures _ (length-take-le (a.h * length a.one.now) a.s.now c.requires.source)
+    c.saturating_sub.ensures _ (length-take-le (a.h * length a.one.now) a.s.now c.requires.source)
 
 pub returns : goal.returns
 returns c =
     let a = c.args in record {
       first = lead_upper _ (length a.one.now) _ a.h a.o a.high a.y a.z _ _ _ _ _ a.grows c.requires
-          c.before-above.ensures c.past-lo.ensures c.lesser-end.ensures c.lesser-last.ensures
-          c.past.ensures a.packed a.s.now _ c.pair.ensures.one;
+          c.before-above.ensures c.saturating_sub-lo.ensures c.lesser-end.ensures c.lesser-last.ensures
+          c.saturating_sub.ensures a.packed a.s.now _ c.pair.ensures.one;
       second = lead_lower _ (length a.one.now) _ a.h a.o a.high a.y a.z _ _ _ _ _ a.grows c.requires
-          c.before-above.ensures c.past-lo.ensures c.lesser-end.ensures c.lesser-last.ensures
-          c.past.ensures a.packed a.s.now _ c.pair.ensures.other;
+          c.before-above.ensures c.saturating_sub-lo.ensures c.lesser-end.ensures c.lesser-last.ensures
+          c.saturating_sub.ensures a.packed a.s.now _ c.pair.ensures.other;
     }

@@ -157,9 +157,6 @@ overflow_cast-downs c =
 pub bounds-downs-i : goal.bounds-downs-i
 bounds-downs-i c = down_counted (turn (goal.at.bounds-downs-i c).After-cells_both-k)
 
-pub overflow_add-i : goal.overflow_add-i
-overflow_add-i c = omega (arith, few (turn (goal.at.overflow_add-i c).After-cells_both-k))
-
 pub loop-i-smaller : goal.loop-i-smaller
 loop-i-smaller c =
     omega (arith, c.loop-i-test.true)

@@ -7,6 +7,3 @@ use Rattle.byheight.proofs.list_rows.Given as goal
 abbrev pub invariant-loop-i : goal.invariant-loop-i
 invariant-loop-i l =
     (l.i ≤ l.n) × Listed l.grows l.o l.words l.hs l.from l.i l.rising l.others l.ups l.downs
-
-abbrev pub decreases-loop-i : goal.decreases-loop-i
-decreases-loop-i l = l.n - l.i

@@ -77,15 +77,6 @@ add_row-requires c =
       part_2 = l.invariant.2;
     }
 
-pub overflow_add-i : goal.overflow_add-i
-overflow_add-i c =
-    let f = c.requires.fits.0 in omega (
-      arith,
-      c.loop-i-test.true,
-      f.rows,
-      f.high,
-    )
-
 pub loop-i-smaller : goal.loop-i-smaller
 loop-i-smaller c = omega (arith, c.loop-i-test.true)
 

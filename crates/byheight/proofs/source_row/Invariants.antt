@@ -11,6 +11,3 @@ invariant-loop-i l =
     (l.i ≤ l.n) × (length l.t ≡ length l.initial.t)
     × Part l.grows l.s l.w l.h l.o l.words l.hs l.from l.n l.v.0 (l.from + l.i) l.t
     × Marked l.grows l.w l.h l.marks l.t
-
-abbrev pub decreases-loop-i : goal.decreases-loop-i
-decreases-loop-i l = l.n - l.i

@@ -79,13 +79,6 @@ source_row-requires c =
       part_2 = l.invariant.3;
     }
 
-pub overflow_add-v : goal.overflow_add-v
-overflow_add-v c =
-    omega (
-      arith,
-      early (goal.at.overflow_add-v c).In-loop-v,
-    )
-
 pub loop-v-smaller : goal.loop-v-smaller
 loop-v-smaller c =
     omega (

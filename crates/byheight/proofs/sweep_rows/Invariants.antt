@@ -12,6 +12,3 @@ invariant-loop-v l =
     (l.v ≤ l.h) × (length l.t ≡ length l.initial.t)
     × Listed l.grows l.o l.words l.hs l.from l.n l.rising l.others l.ups l.downs
     × Part l.grows l.s l.w l.h l.o l.words l.hs l.from l.n l.v l.from l.t × Marked l.grows l.w l.h l.marks l.t
-
-abbrev pub decreases-loop-v : goal.decreases-loop-v
-decreases-loop-v l = l.h - l.v

@@ -2,6 +2,7 @@
 -- and those of 16, made of these, over the row.
 use Rattle.blocks.specs.Steps.Laid.{laid}
 use Rattle.packedline.specs.Steps.Padded.{faced_byte}
+use Rattle.rooms.specs.Steps.Lanes.{bytes_way, widened_to}
 use Rattle.bysource.proofs.Filled.{runs_filled}
 use lib.ListN.{length, get_or}
 use mathlib.Core.Bool.{false}
@@ -14,31 +15,37 @@ use Rattle.bysource.proofs.fill_runs.Goals as goal
 pub widen-requires : goal.widen-requires
 widen-requires c =
     let l : length c.copy_over.new.b ≡ 2464 = search rules in
+    let few = c.requires.fit.few_points in
+    let n = c.windows-n.ensures in
     record {
-      nearer = omega arith;
-      near = omega arith;
-      reads = omega (arith, l, c.requires.s_len_bound.1.0);
-      writes = omega (arith, l, c.requires.s_len_bound.1.0);
-      apart = inr (omega (arith, c.requires.s_len_bound.1.0));
+      whole = inr (omega (arith, n));
+      writes = omega (arith, l, few, n);
+      first = (omega (arith, l, few, n), inr (omega (arith, few, n)));
+      second = (omega (arith, l, few, n), inr (omega (arith, few, n)));
+      third = (omega (arith, l, few, n), inr (omega (arith, few, n)));
     }
 
 pub widen-requires-2 : goal.widen-requires-2
 widen-requires-2 c =
     let l : length c.widen.new.b ≡ 2464 = search rules in
+    let few = c.requires.fit.few_points in
+    let n = c.windows-n.ensures in
     record {
-      nearer = omega arith;
-      near = omega arith;
-      reads = omega (arith, l, c.requires.s_len_bound.1.0);
-      writes = omega (arith, l, c.requires.s_len_bound.1.0);
-      apart = inl (omega (arith, c.requires.s_len_bound.1.0));
+      whole = inr (omega (arith, n));
+      writes = omega (arith, l, few, n);
+      first = (omega (arith, l, few, n), inl (omega (arith, few, n)));
+      second = (omega (arith, l, few, n), inl (omega (arith, few, n)));
+      third = (omega (arith, l, few, n), inl (omega (arith, few, n)));
     }
 
 pub returns : goal.returns
 returns c =
     let a = c.args in
     let p = c.copy_over in
+    let q = c.widen in
     let l : length p.new.b ≡ 2464 = search rules in
-    runs_filled a.grows a.s.now a.n c.requires.s_len_bound.0 c.requires.s_len_bound.1.0 p.new.b _ _ l
+    runs_filled a.grows a.s.now c.requires.fit.few_points p.new.b _ _ l
     (p.ensures
-    ∙ ap (laid 1296 (length a.s.now) (λ i. faced_byte false (get_or a.s.now i 0))) c.requires.b_value)
-    c.widen.ensures c.widen-2.ensures
+    ∙ ap (laid 1296 (length a.s.now) (λ i. faced_byte false (get_or a.s.now i 0))) c.requires.fit.empty)
+    (q.ensures ∙ ap (λ n. widened_to bytes_way a.grows 1232 0 n 1 2 3 p.new.b) c.windows-n.ensures)
+    (c.widen-2.ensures ∙ ap (λ n. widened_to bytes_way a.grows 0 1232 n 4 8 12 q.new.b) c.windows-n.ensures)

@@ -37,9 +37,6 @@ loop-r-preserved c =
           r.ensures,
     )
 
-pub shape_of-t : goal.shape_of-t
-shape_of-t c = c.loop-r.invariant.1 ∙ c.begin.auto.t
-
 pub returns : goal.returns
 returns c =
     let a = c.args in

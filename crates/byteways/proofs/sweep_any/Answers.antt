@@ -9,8 +9,16 @@ returns-then-sweep c =
     let r = c.sweep in
     was_few _ _ _ _ _ r.ensures.few c.if-sweep.true r.ensures.bytes
 
+pub returns-then-grows : goal.returns-then-grows
+returns-then-grows c =
+    let r = c.sweep in
+    rw c.if-grows.true (over_same _ _ _ _ _ _
+    (was_many _ _ _ _ _ r.ensures.few c.if-sweep.false r.ensures.bytes)
+    c.sweep-then-grows.ensures)
+
 pub returns : goal.returns
 returns c =
     let r = c.sweep in
-    over_same _ _ _ _ _ _ (was_many _ _ _ _ _ r.ensures.few c.if-sweep.false r.ensures.bytes)
-    c.sweep-2.ensures
+    rw c.if-grows.false (over_same _ _ _ _ _ _
+    (was_many _ _ _ _ _ r.ensures.few c.if-sweep.false r.ensures.bytes)
+    c.sweep-2.ensures)

@@ -3,7 +3,7 @@
 use Rattle.bytewindows.specs.Steps.Four.{joined_four}
 use Rattle.blocks.specs.Steps.Laid.{laid}
 use lib.ListN.{length}
-use Prim.Native.Nat.{◌+◌, ◌-◌, ◌*◌, ◌≤◌}
+use Prim.Native.Nat.{◌+◌, ◌*◌, ◌≤◌}
 use mathlib.Core.Path.{◌≡◌}
 use Rattle.bytewindows.proofs.lay_blocks.Given as goal
 
@@ -12,6 +12,3 @@ invariant-loop-j l =
     (l.j ≤ l.k) × (length l.t ≡ length l.initial.t)
     × (l.t ≡ laid 0 (64 * l.j) (λ i. joined_four l.grows l.b (l.p + i) (l.q + i) (l.r + i) (l.s + i))
     l.initial.t)
-
-abbrev pub decreases-loop-j : goal.decreases-loop-j
-decreases-loop-j l = l.k - l.j

@@ -3,7 +3,7 @@
 use Rattle.bytewindows.specs.Steps.Four.{widen_at}
 use Rattle.windows.specs.Steps.Widened.{widened_by}
 use lib.ListN.{length}
-use Prim.Native.Nat.{◌-◌, ◌≤◌}
+use Prim.Native.Nat.{◌≤◌}
 use mathlib.Core.Path.{◌≡◌}
 use Rattle.bytewindows.proofs.widen.Given as goal
 
@@ -11,6 +11,3 @@ abbrev pub invariant-loop-j : goal.invariant-loop-j
 invariant-loop-j l =
     (l.j ≤ l.k) × (length l.b ≡ length l.initial.b)
     × (l.b ≡ widened_by (widen_at l.grows l.n) l.j l.initial.b)
-
-abbrev pub decreases-loop-j : goal.decreases-loop-j
-decreases-loop-j l = l.k - l.j

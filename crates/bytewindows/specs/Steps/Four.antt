@@ -1,5 +1,5 @@
 -- What stands at four places of a row of bytes, joined; and windows, which are that in place.
-use Rattle.std.specs.Prelude.{ℕ, ◌+◌, ◌*◌, ◌≤◌, Bool, cond, List, leb, get_or}
+use Rattle.std.specs.Prelude.{ℕ, ◌+◌, ◌≤◌, Bool, cond, List, leb, get_or}
 use Rattle.rows.specs.Steps.Fold.{join_by}
 use Rattle.windows.specs.Steps.Widened.{widened_by}
 

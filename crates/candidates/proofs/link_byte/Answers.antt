@@ -9,11 +9,11 @@ use Rattle.candidates.proofs.link_byte.Goals as goal
 
 pub returns-then-j-eq0 : goal.returns-then-j-eq0
 returns-then-j-eq0 c =
-    ap (λ n. n + 1) c.lesser.ensures ∙ sym (byte_wide _ _ _ _ (omega arith))
+    ap (λ n. n + 1) c.min.ensures ∙ sym (byte_wide _ _ _ _ (omega arith))
 
 pub returns-then-j-eq1 : goal.returns-then-j-eq1
 returns-then-j-eq1 c =
-    ap (λ n. n + 1) c.lesser-then-j-eq1.ensures ∙ sym (byte_high _ _ _ _ (omega arith))
+    ap (λ n. n + 1) c.min-then-j-eq1.ensures ∙ sym (byte_high _ _ _ _ (omega arith))
 
 pub returns-then-j-eq2 : goal.returns-then-j-eq2
 returns-then-j-eq2 c = c.part.ensures.0 ∙ sym (byte_column _ _ _ _ (omega arith))

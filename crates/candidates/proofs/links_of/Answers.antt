@@ -12,6 +12,6 @@ pub returns : goal.returns
 returns c = (
   c.needed.ensures.0
       ∙ sym (links_more _ _ _ c.if-c.false
-      c.greater.ensures),
+      c.max.ensures),
   c.needed.ensures.1,
 )

@@ -3,7 +3,6 @@ use native.Mathlib.Omega.{arith}
 use borrow.Author.Rules.{rules}
 use lib.ListN.{length-set}
 use Rattle.basics.proofs.Lists.{over_none, over_more, over_whole}
-use Rattle.candidates.specs.Candidates.{link_byte}
 use Rattle.candidates.proofs.put_link.Goals as goal
 
 pub loop-j-init : goal.loop-j-init

@@ -1,6 +1,6 @@
 -- Invariant: the first i links are there, and the bytes past them are as they were.
 -- What falls: the links that are left.
-use Prim.Native.Nat.{◌-◌, ◌*◌, ◌≤◌}
+use Prim.Native.Nat.{◌*◌, ◌≤◌}
 use mathlib.Core.Path.{◌≡◌}
 use mathlib.Core.List.{◌++◌}
 use lib.ListN.{length, drop}
@@ -12,6 +12,3 @@ abbrev pub invariant-loop-i : goal.invariant-loop-i
 invariant-loop-i l =
     (l.i ≤ l.k) × (length l.t ≡ length l.initial.t)
     × (l.t ≡ joined (λ n. firsts (link_byte l.hull l.c n) l.m) l.i ++ drop (l.i * l.m) l.initial.t)
-
-abbrev pub decreases-loop-i : goal.decreases-loop-i
-decreases-loop-i l = l.k - l.i

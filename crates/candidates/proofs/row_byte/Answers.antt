@@ -19,9 +19,9 @@ pub overflow_add-from : goal.overflow_add-from
 overflow_add-from c =
     record {
       fits =
-          few_sum _ _ _ _ _ _ _ _ c.part-from.ensures.1 c.greater.ensures
-          c.less-ul.ensures
-          c.less-ll.ensures
+          few_sum _ _ _ _ _ _ _ _ c.part-from.ensures.1 c.max.ensures
+          c.saturating_sub-ul.ensures
+          c.saturating_sub-ll.ensures
           c.part.ensures.1 c.part-2.ensures.1;
     }
 
@@ -38,11 +38,11 @@ returns c =
     c.part-4.ensures.0
     (let z = c.if-r-upper.false in omega arith)
     (let z = c.if-lower-r.false in omega arith)
-    c.less-ul.ensures
-    c.less-ll.ensures
-    c.less-ur.ensures
-    c.less-lr.ensures
-    c.greater.ensures
-    c.greater-2.ensures
-    c.less.ensures
+    c.saturating_sub-ul.ensures
+    c.saturating_sub-ll.ensures
+    c.saturating_sub-ur.ensures
+    c.saturating_sub-lr.ensures
+    c.max.ensures
+    c.max-2.ensures
+    c.saturating_sub.ensures
     c.run_byte.ensures

@@ -3,7 +3,7 @@
 use Rattle.element.specs.Record.{cell_on}
 use Rattle.rows.specs.Steps.Ways.{weigh_by}
 use Rattle.rows.specs.Steps.Row.{cell_row}
-use Rattle.cellrow.proofs.Cell.{cell_set, cell_unset, part_order, part_end, parts_alike}
+use Rattle.cellrow.proofs.Cell.{cell_set, cell_unset, part_order, parts_alike}
 use Prim.Native.Nat.{◌-◌, ◌≤◌}
 use mathlib.Core.Path.{sym, ap₂, ◌∙◌}
 use Rattle.cellrow.proofs.fold_cell.Goals as goal
@@ -11,17 +11,6 @@ use Rattle.cellrow.proofs.fold_cell.Goals.{After-past-b}
 
 ordered : (c : After-past-b) → c.past-b.result ≤ c.args.w - c.past-a.result
 ordered c = part_order _ _ _ _ _ c.past-a.ensures c.past-b.ensures
-
-pub slice_bounds-join_cell-count-then-cell : goal.slice_bounds-join_cell-count-then-cell
-slice_bounds-join_cell-count-then-cell c =
-    ordered (goal.at.slice_bounds-join_cell-count-then-cell c).After-past-b
-
-pub slice_bounds-join_cell-start-then-cell : goal.slice_bounds-join_cell-start-then-cell
-slice_bounds-join_cell-start-then-cell c =
-    ordered (goal.at.slice_bounds-join_cell-start-then-cell c).After-past-b
-
-pub slice_bounds-join_cell-end-then-cell : goal.slice_bounds-join_cell-end-then-cell
-slice_bounds-join_cell-end-then-cell c = part_end _ _ _ c.requires.1.0
 
 pub join_cell-requires : goal.join_cell-requires
 join_cell-requires c =

@@ -36,9 +36,6 @@ loop-c-preserved c =
           c.height_at-g.ensures),
     )
 
-pub shape_of-t : goal.shape_of-t
-shape_of-t c = c.loop-c.invariant.1
-
 pub returns : goal.returns
 returns c =
     let a = c.args in

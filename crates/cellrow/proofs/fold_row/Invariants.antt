@@ -5,7 +5,7 @@ use Rattle.rows.specs.Steps.Row.{columns_of}
 use Rattle.rows.specs.Steps.Ways.{weigh_by}
 use Rattle.element.specs.Record.{cell_on}
 use lib.ListN.{length}
-use Prim.Native.Nat.{◌+◌, ◌≤◌, ◌-◌}
+use Prim.Native.Nat.{◌+◌, ◌≤◌}
 use mathlib.Core.Path.{◌≡◌}
 use Rattle.cellrow.proofs.fold_row.Given as goal
 
@@ -14,6 +14,3 @@ invariant-loop-c l =
     (l.c ≤ l.wide) × (length l.t ≡ length l.initial.t)
     × (l.t ≡ so_far l.grows (weigh_by l.grows) (λ c. columns_of l.heights (l.at + c)) l.initial.t l.s l.w
     (cell_on l.word) l.origin.0 l.c)
-
-abbrev pub decreases-loop-c : goal.decreases-loop-c
-decreases-loop-c l = l.wide - l.c

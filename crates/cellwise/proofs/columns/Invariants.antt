@@ -6,6 +6,3 @@ use Rattle.cellwise.proofs.columns.Given as goal
 
 abbrev pub invariant-loop-x : goal.invariant-loop-x
 invariant-loop-x l = (l.from ≤ l.x) × ((l.x ≤ l.to) × Across l.grows l.s l.w l.h l.o l.words l.x l.t)
-
-abbrev pub decreases-loop-x : goal.decreases-loop-x
-decreases-loop-x l = l.to - l.x

@@ -8,6 +8,3 @@ abbrev pub invariant-loop-y : goal.invariant-loop-y
 invariant-loop-y l =
     (l.from ≤ l.y) × ((l.y ≤ l.to) × Down l.grows l.s l.w l.h l.o
     l.words l.first l.last l.y l.t)
-
-abbrev pub decreases-loop-y : goal.decreases-loop-y
-decreases-loop-y l = l.to - l.y

@@ -7,6 +7,3 @@ use Rattle.cellwise.proofs.pick.Given as goal
 
 abbrev pub invariant-loop-j : goal.invariant-loop-j
 invariant-loop-j l = (l.j ≤ length l.at) × Picked l.w l.back l.x l.at l.j l.n l.into
-
-abbrev pub decreases-loop-j : goal.decreases-loop-j
-decreases-loop-j l = length l.at - l.j

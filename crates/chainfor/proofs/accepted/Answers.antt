@@ -52,4 +52,4 @@ returns c =
     accepted_is _ _ _ _ _ _ _ _ _ _ _ c.try_no-c.ensures.0
     c.links_of-k.ensures.0
     c.length_of-m.ensures.0 refl c.put_links.ensures c.check_chain.ensures
-    c.is_done.ensures
+    c.is_ok.ensures.value

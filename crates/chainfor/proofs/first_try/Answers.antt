@@ -1,28 +1,25 @@
-use mathlib.Core.Path.{refl, sym, ◌∙◌}
-use native.Mathlib.Omega.{arith}
+-- The candidates are asked in order: what is found first is the definition's first, below the end.
+-- Whether a candidate passes is what `accepted` promises.
+use mathlib.Core.Path.{◌≡◌}
+use mathlib.Core.Bool.{true, false}
 use borrow.Author.Rules.{rules}
-use Rattle.dividing.proofs.Least.{least_here, least_more, least_end}
-use Rattle.chainfor.specs.Find.{tries, first_try}
+use Rattle.std.proofs.lemmas.Iterator.{first_from_Range, serves_from_Range}
+use Rattle.dividing.proofs.Least.{found_least}
+use Rattle.chainfor.specs.Find.{tries, accepts, first_try}
 use Rattle.chainfor.proofs.first_try.Goals as goal
 
-pub loop-t-init : goal.loop-t-init
-loop-t-init c = (search rules, refl)
-
-pub returns-then-accepted : goal.returns-then-accepted
-unfolding first_try
-returns-then-accepted c =
-    let l = c.loop-t in
-    sym (l.invariant.1 ∙ least_here _ l.t _ (omega arith) (sym c.accepted.ensures
-    ∙ c.if-accepted.true))
-
-pub loop-t-preserved : goal.loop-t-preserved
-loop-t-preserved c =
-    let l = c.loop-t in (
-      omega arith,
-      l.invariant.1 ∙ least_more _ l.t tries (omega arith) (sym c.accepted.ensures
-          ∙ c.if-accepted.false),
-    )
+pub find-requires : goal.find-requires
+find-requires c =
+    record {
+      can = tt;
+      finite = tt;
+      callable = serves_from_Range (λ x q k. search rules) (λ x low high. search rules);
+    }
 
 pub returns : goal.returns
 unfolding first_try
-returns c = sym (c.loop-t.invariant.1 ∙ least_end _ c.loop-t.t tries (omega arith))
+returns c =
+    let p = accepts c.args.element.now c.args.hull in
+    found_least p 0 tries _
+    (first_from_Range _ _ _ _ (λ k. p k ≡ true) (λ k. p k ≡ false) c.find.ensures.ran
+    (λ x q k. search rules) (λ x q k. (search rules, search rules)))

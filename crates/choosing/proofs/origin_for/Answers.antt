@@ -1,26 +1,26 @@
-use mathlib.Core.Path.{refl, sym, ◌∙◌}
-use native.Mathlib.Omega.{arith}
-use Rattle.choosing.specs.Link.{suits, origin_for}
-use Rattle.dividing.proofs.Least.{least_here, least_more, least_end}
+-- The cells are asked in order: what is found first is the definition's first, below the end.
+-- Whether a cell suits is what `suits` promises.
+use mathlib.Core.Path.{◌≡◌}
+use mathlib.Core.Bool.{true, false}
 use borrow.Author.Rules.{rules}
+use Rattle.std.proofs.lemmas.Iterator.{first_from_Range, serves_from_Range}
+use Rattle.dividing.proofs.Least.{found_least}
+use Rattle.choosing.specs.Link.{suits, origin_for}
 use Rattle.choosing.proofs.origin_for.Goals as goal
 
-pub loop-o-init : goal.loop-o-init
-loop-o-init c = (search rules, refl)
-
-pub returns-then-suits : goal.returns-then-suits
-unfolding origin_for
-returns-then-suits c =
-    let l = c.loop-o in
-    sym (l.invariant.1 ∙ least_here _ l.o _ (omega arith) (sym c.suits.ensures ∙ c.if-suits.true))
-
-pub loop-o-preserved : goal.loop-o-preserved
-loop-o-preserved c =
-    let l = c.loop-o in (
-      omega arith,
-      l.invariant.1 ∙ least_more _ l.o 64 (omega arith) (sym c.suits.ensures ∙ c.if-suits.false),
-    )
+pub find-requires : goal.find-requires
+find-requires c =
+    record {
+      can = tt;
+      finite = tt;
+      callable = serves_from_Range (λ x q k. search rules) (λ x low high. search rules);
+    }
 
 pub returns : goal.returns
 unfolding origin_for
-returns c = sym (c.loop-o.invariant.1 ∙ least_end _ c.loop-o.o 64 (omega arith))
+returns c =
+    let a = c.args in
+    let p = suits a.rows.now a.column a.row a.link a.a a.rest.now in
+    found_least p 0 64 _
+    (first_from_Range _ _ _ _ (λ k. p k ≡ true) (λ k. p k ≡ false) c.find.ensures.ran
+    (λ x q k. search rules) (λ x q k. (search rules, search rules)))

@@ -22,18 +22,6 @@ loop-v-init c =
       c.beyond-c.ensures ∙ down_none a.packed a.grows a.s.now a.n a.lo a.i,
     )
 
-pub overflow_add-lo : goal.overflow_add-lo
-overflow_add-lo c = omega (arith, room c)
-
-pub overflow_mul-lo : goal.overflow_mul-lo
-overflow_mul-lo c = omega (arith, room c)
-
-pub overflow_add-lo-in-loop-v : goal.overflow_add-lo-in-loop-v
-overflow_add-lo-in-loop-v c = omega (arith, room c, c.requires.1)
-
-pub bounds-s-lo : goal.bounds-s-lo
-bounds-s-lo c = omega (arith, room (goal.at.bounds-s-lo c).In-loop-v, c.requires.1)
-
 pub loop-v-preserved : goal.loop-v-preserved
 loop-v-preserved c =
     let l = c.loop-v in

@@ -25,18 +25,6 @@ loop-v-init c =
       block_none a.packed a.grows a.s.now a.n a.lo a.i _ _ c.beyond-c.ensures refl,
     )
 
-pub overflow_add-lo : goal.overflow_add-lo
-overflow_add-lo c = omega (arith, room c)
-
-pub overflow_mul-lo : goal.overflow_mul-lo
-overflow_mul-lo c = omega (arith, room c)
-
-pub overflow_add-lo-in-loop-v : goal.overflow_add-lo-in-loop-v
-overflow_add-lo-in-loop-v c = omega (arith, room c)
-
-pub join_block-next-requires : goal.join_block-next-requires
-join_block-next-requires c = omega (arith, room c)
-
 pub loop-v-preserved : goal.loop-v-preserved
 loop-v-preserved c =
     let l = c.loop-v in

@@ -3,7 +3,7 @@
 use Rattle.columns.specs.Steps.Down.{down_at}
 use Rattle.basics.specs.Lists.{firsts}
 use lib.ListN.{length}
-use Prim.Native.Nat.{◌+◌, ◌-◌, ◌≤◌}
+use Prim.Native.Nat.{◌+◌, ◌≤◌}
 use mathlib.Core.Path.{◌≡◌}
 use Rattle.columns.proofs.down.Given as goal
 
@@ -11,6 +11,3 @@ abbrev pub invariant-loop-v : goal.invariant-loop-v
 invariant-loop-v l =
     (l.v ≤ l.count) × (length l.c ≡ 64) × (l.c ≡ firsts (λ m. down_at
     l.packed l.grows l.s l.n l.lo l.v (l.i + m)) 64)
-
-abbrev pub decreases-loop-v : goal.decreases-loop-v
-decreases-loop-v l = l.count - l.v

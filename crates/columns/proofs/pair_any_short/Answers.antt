@@ -25,9 +25,6 @@ rows_end-requires c =
     let few = rows_few _ _ _ c.args.first c.args.lo c.args.count c.args.last c.requires.pair
     (omega arith) in (omega (arith, few), (omega (arith, few), omega (arith, few)))
 
-pub overflow_mul-rows_end : goal.overflow_mul-rows_end
-overflow_mul-rows_end c = omega (arith, below c)
-
 pub pair_short-requires : goal.pair_short-requires
 pair_short-requires c =
     record {

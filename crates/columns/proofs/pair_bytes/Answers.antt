@@ -29,12 +29,6 @@ loop-j-preserved c =
           d.ensures c.join-in-loop-j.ensures),
     )
 
-pub shape_of-y : goal.shape_of-y
-shape_of-y c = c.loop-j.invariant.1
-
-pub shape_of-z : goal.shape_of-z
-shape_of-z c = c.loop-j.invariant.2
-
 pub returns : goal.returns
 returns c =
     let a = c.args in

@@ -3,7 +3,7 @@
 use Rattle.columns.specs.Steps.Down.{also_at}
 use Rattle.blocks.specs.Steps.Laid.{laid}
 use lib.ListN.{length}
-use Prim.Native.Nat.{◌-◌, ◌≤◌}
+use Prim.Native.Nat.{◌≤◌}
 use mathlib.Core.Path.{◌≡◌}
 use Rattle.columns.proofs.pair_bytes.Given as goal
 
@@ -13,6 +13,3 @@ invariant-loop-j l =
     × (length l.z ≡ length l.initial.z)
     × (l.y ≡ laid 0 l.j (also_at l.packed l.grows l.s (length l.initial.y) l.lo l.count l.first) l.initial.y)
     × (l.z ≡ laid 0 l.j (also_at l.packed l.grows l.s (length l.initial.y) l.lo l.count l.last) l.initial.z)
-
-abbrev pub decreases-loop-j : goal.decreases-loop-j
-decreases-loop-j l = length l.initial.y - l.j

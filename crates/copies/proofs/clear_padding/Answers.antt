@@ -3,23 +3,9 @@
 use Rattle.copies.proofs.Copies.{copied}
 use Rattle.picture.specs.declared.Face.TheVariants.{AsIs}
 use Rattle.picture.specs.Bytes.{faced}
-use Rattle.picture.proofs.Sizes.{row_some, spare_few}
-use Prim.Native.Nat.{◌*◌}
-use mathlib.Core.Path.{refl, ap, ◌∙◌}
+use mathlib.Core.Path.{refl, ◌∙◌}
 use native.Mathlib.Omega.{arith}
 use Rattle.copies.proofs.clear_padding.Goals as goal
-
-pub clear_rows-requires : goal.clear_rows-requires
-clear_rows-requires c =
-    let a = c.args in
-    let p = c.requires in
-    let n = c.row_bytes-n.ensures in (
-      omega (arith, c.spare_bits-u.ensures, spare_few a.depth a.w),
-      (
-        omega (arith, n, row_some a.depth a.w p.some_pings),
-        omega (arith, ap (λ n. a.h * n) n, p.long),
-      ),
-    )
 
 pub returns : goal.returns
 unfolding faced

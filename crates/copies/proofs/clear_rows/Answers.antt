@@ -1,9 +1,7 @@
 use Rattle.copies.proofs.Copies.{cleared_length}
 use Rattle.copies.proofs.InPlace.{row_cleared}
-use Rattle.picture.proofs.Sizes.{row_room}
 use Rattle.copies.specs.Steps.Copy.{cleared_row, cleared_rows}
 use Rattle.basics.proofs.Joined.{rows_none, rows_more, rows_all}
-use Rattle.basics.proofs.Lists.{part_length}
 use Prim.Native.Nat.{◌-◌, ◌+◌, ◌*◌}
 use mathlib.Core.Bool.{false}
 use mathlib.Core.Path.{refl, ◌∙◌}
@@ -20,26 +18,6 @@ loop-y-init c =
       rows_none (cleared_row false a.t.now a.n a.u) a.n (cleared_length _ _ _ _) _,
     )
 
-pub overflow_mul-a : goal.overflow_mul-a
-overflow_mul-a c = omega (arith, row_room c.args.n c.loop-y-test.true)
-
-pub overflow_add-z : goal.overflow_add-z
-overflow_add-z c = omega (arith, row_room c.args.n c.loop-y-test.true)
-
-pub slice_bounds-clear_last-end : goal.slice_bounds-clear_last-end
-slice_bounds-clear_last-end c = omega (arith, row_room c.args.n c.loop-y-test.true)
-
-pub clear_last-requires : goal.clear_last-requires
-clear_last-requires c =
-    let a = c.args in
-    let r = row_room a.n c.loop-y-test.true in (
-      search rules,
-      (
-        part_length c.loop-y.t (c.loop-y.y * a.n) a.n (omega arith),
-        search rules,
-      ),
-    )
-
 pub loop-y-preserved : goal.loop-y-preserved
 loop-y-preserved c =
     let a = c.args in
@@ -53,9 +31,6 @@ loop-y-preserved c =
           a.n l.y _ l.t r.new.t refl l.invariant.2
           (row_cleared a.t.now l.t _ a.n a.u l.y l.invariant.2 r.ensures),
     )
-
-pub shape_of-t : goal.shape_of-t
-shape_of-t c = c.loop-y.invariant.1
 
 pub returns : goal.returns
 unfolding cleared_rows

@@ -1,6 +1,5 @@
-use Rattle.copies.proofs.Copies.{spare_small}
-use Rattle.copies.specs.Steps.Copy.{cleared_at, cleared_byte}
-use Rattle.basics.proofs.Lists.{over_none, over_more, over_whole}
+use Rattle.copies.specs.Steps.Copy.{over_of, cleared_at, cleared_byte}
+use Rattle.basics.proofs.Lists.{over_none, over_more}
 use lib.ListN.{get_or, length-set}
 use Prim.Native.Nat.{◌+◌}
 use mathlib.Core.Path.{ap, ◌∙◌}
@@ -11,14 +10,6 @@ use Rattle.copies.proofs.copy_row.Goals as goal
 pub loop-i-init : goal.loop-i-init
 loop-i-init c = (search rules, search rules, over_none _ _)
 
-pub cleared-requires : goal.cleared-requires
-cleared-requires c =
-    let a = c.args in omega (
-      arith,
-      c.spare_at-v.ensures,
-      spare_small c.loop-i.i a.n a.u (omega arith),
-    )
-
 pub loop-i-preserved : goal.loop-i-preserved
 unfolding cleared_at
 loop-i-preserved c =
@@ -26,11 +17,8 @@ loop-i-preserved c =
     let a = c.args in (
       search rules,
       simp length-set l.invariant.1,
-      over_more (cleared_at a.over a.s.now a.at a.n a.u)
+      over_more (cleared_at (over_of a.face) a.s.now a.at a.n a.u)
           a.t.now l.t l.i c.cleared.result (omega arith) l.invariant.2
-          (c.cleared.ensures ∙ ap (λ n. cleared_byte a.over (get_or a.s.now (a.at + l.i) 0) n)
+          (c.cleared.ensures ∙ ap (λ n. cleared_byte (over_of a.face) (get_or a.s.now (a.at + l.i) 0) n)
           c.spare_at-v.ensures),
     )
-
-pub returns : goal.returns
-returns c = over_whole _ _ _ c.loop-i.i _ c.loop-i.invariant.2 (omega arith) (omega arith)

@@ -1,26 +1,26 @@
-use mathlib.Core.Path.{refl, sym, ◌∙◌}
-use native.Mathlib.Omega.{arith}
-use Rattle.covering.specs.Cover.{bare, first_bare}
-use Rattle.dividing.proofs.Least.{least_here, least_more, least_end}
+-- The rows are asked in order: what is found first is the definition's first, below the end.
+-- Whether a row is left bare is what `bare` promises.
+use mathlib.Core.Path.{◌≡◌}
+use mathlib.Core.Bool.{true, false}
 use borrow.Author.Rules.{rules}
+use Rattle.std.proofs.lemmas.Iterator.{first_from_Range, serves_from_Range}
+use Rattle.dividing.proofs.Least.{found_least}
+use Rattle.covering.specs.Cover.{bare, first_bare}
 use Rattle.covering.proofs.first_bare.Goals as goal
 
-pub loop-y-init : goal.loop-y-init
-loop-y-init c = (search rules, refl)
-
-pub returns-then-bare : goal.returns-then-bare
-unfolding first_bare
-returns-then-bare c =
-    let l = c.loop-y in
-    sym (l.invariant.1 ∙ least_here _ l.y _ (omega arith) (sym c.bare.ensures ∙ c.if-bare.true))
-
-pub loop-y-preserved : goal.loop-y-preserved
-loop-y-preserved c =
-    let l = c.loop-y in (
-      omega arith,
-      l.invariant.1 ∙ least_more _ l.y 64 (omega arith) (sym c.bare.ensures ∙ c.if-bare.false),
-    )
+pub find-requires : goal.find-requires
+find-requires c =
+    record {
+      can = tt;
+      finite = tt;
+      callable = serves_from_Range (λ x q k. search rules) (λ x low high. search rules);
+    }
 
 pub returns : goal.returns
 unfolding first_bare
-returns c = sym (c.loop-y.invariant.1 ∙ least_end _ c.loop-y.y 64 (omega arith))
+returns c =
+    let a = c.args in
+    let p = bare a.rows.now a.link a.a a.rest.now in
+    found_least p 0 64 _
+    (first_from_Range _ _ _ _ (λ k. p k ≡ true) (λ k. p k ≡ false) c.find.ensures.ran
+    (λ x q k. search rules) (λ x q k. (search rules, search rules)))

@@ -13,6 +13,3 @@ invariant-loop-y l =
     (l.y ≤ 64) × (l.part ≡ firsts (λ i. quarter_row (get_or l.rows i 0) i l.column l.row l.right l.lower) l.y
     ++ drop l.y
     (replicate {A = ℕ} 64 0))
-
-abbrev pub decreases-loop-y : goal.decreases-loop-y
-decreases-loop-y l = 64 - l.y

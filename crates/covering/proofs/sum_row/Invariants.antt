@@ -7,6 +7,3 @@ use Rattle.covering.proofs.sum_row.Given as goal
 
 abbrev pub invariant-loop-k : goal.invariant-loop-k
 invariant-loop-k l = (l.k ≤ 64) × (l.acc ≡ sum_row l.rest l.link l.a l.y l.k)
-
-abbrev pub decreases-loop-k : goal.decreases-loop-k
-decreases-loop-k l = 64 - l.k

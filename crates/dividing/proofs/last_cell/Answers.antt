@@ -1,30 +1,38 @@
-use Prim.Native.Nat.{◌-◌}
-use mathlib.Core.Path.{refl, sym, ap, ◌∙◌}
+-- The places are asked in order, from the last on: the first that is set is as far back as the definition's.
+-- Whether a place is set is what `cell_of` promises; no difference wraps, since the count is at most PLACES.
+use Prim.Native.Nat.{ℕ, ◌-◌}
+use mathlib.Core.Path.{◌≡◌, ap, ◌∙◌}
+use mathlib.Core.Bool.{Bool, true, false}
 use native.Mathlib.Omega.{arith}
-use Rattle.dividing.specs.Board.{cell_of, last_cell}
-use Rattle.dividing.proofs.Least.{least_here, least_more, least_end}
 use borrow.Author.Rules.{rules}
+use Rattle.std.proofs.lemmas.Iterator.{first_from_Range, serves_from_Range}
+use Rattle.dividing.specs.Board.{cell_of, last_cell}
+use Rattle.dividing.specs.Least.{least_from}
+use Rattle.dividing.proofs.Least.{found_least, or_end, least_few}
 use Rattle.dividing.proofs.last_cell.Goals as goal
+use Rattle.dividing.proofs.last_cell.Goals.{After-unwrap_or}
 
-pub loop-k-init : goal.loop-k-init
-loop-k-init c = (search rules, refl)
+pub find-back-requires : goal.find-back-requires
+find-back-requires c =
+    record {
+      can = tt;
+      finite = tt;
+      callable = serves_from_Range (λ x q k. search rules) (λ x low high. search rules);
+    }
 
-pub returns-then-cell_of : goal.returns-then-cell_of
-unfolding last_cell
-returns-then-cell_of c =
-    let l = c.loop-k in
-    ap (λ n. 8191 - n) (sym
-    (l.invariant.1 ∙ least_here _ l.k _ (omega arith) (sym c.cell_of.ensures ∙ c.if-cell_of.true)))
+counted : (c : After-unwrap_or)
+    → c.unwrap_or.result ≡ least_from (λ (k : ℕ). cell_of c.args.rows.now (8191 - k)) 0 4096
+counted c =
+    let p : ℕ → Bool = λ k. cell_of c.args.rows.now (8191 - k) in
+    c.unwrap_or.ensures
+    ∙ or_end 4096 _ c.find-back.result (found_least p 0 4096 c.find-back.result
+    (first_from_Range _ _ _ _ (λ k. p k ≡ true) (λ k. p k ≡ false) c.find-back.ensures.ran
+    (λ x q k. search rules) (λ x q k. (search rules, search rules)))) (least_few p 4096 0)
 
-pub loop-k-preserved : goal.loop-k-preserved
-loop-k-preserved c =
-    let l = c.loop-k in (
-      omega arith,
-      l.invariant.1 ∙ least_more _ l.k 4096 (omega arith) (sym c.cell_of.ensures ∙ c.if-cell_of.false),
-    )
+pub overflow_sub-result-2 : goal.overflow_sub-result-2
+overflow_sub-result-2 c =
+    omega (arith, counted c, least_few (λ (k : ℕ). cell_of c.args.rows.now (8191 - k)) 4096 0)
 
 pub returns : goal.returns
 unfolding last_cell
-returns c =
-    let l = c.loop-k in
-    ap (λ n. 8191 - n) (sym (l.invariant.1 ∙ least_end _ l.k 4096 (omega arith)))
+returns c = ap (λ n. 8191 - n) (counted c)

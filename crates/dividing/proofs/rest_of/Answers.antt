@@ -2,7 +2,7 @@ use Prim.Native.Nat.{ℕ}
 use native.Mathlib.Omega.{arith}
 use lib.ListN.{replicate, length-replicate}
 use Rattle.basics.proofs.Lists.{over_none, over_more, over_whole}
-use Rattle.dividing.specs.Divide.{rest_row, rest_of}
+use Rattle.dividing.specs.Divide.{rest_of}
 use Rattle.dividing.proofs.rest_of.Goals as goal
 
 pub loop-y-init : goal.loop-y-init

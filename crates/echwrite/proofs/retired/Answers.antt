@@ -1,16 +1,13 @@
 -- Stands on the one test of the definition.
 -- Each arm is the test's.
-use Rattle.answer.specs.Answer.{told, plain}
-use borrow.Author.Tests.{eq-eqb, ne_eqb}
-use mathlib.Core.Bool.{cond}
-use mathlib.Core.Path.{sym, ap}
+use Rattle.answer.specs.Answer.{told, told_refusal}
+use borrow.Author.Rules.{rules}
 use Rattle.echwrite.proofs.retired.Goals as goal
 
-pub returns-then-kind-eq3 : goal.returns-then-kind-eq3
-unfolding told
-returns-then-kind-eq3 c =
-    sym (ap (λ b. cond b (plain 15) (plain 0)) (eq-eqb _ 3 c.if-kind-eq3.true))
+pub returns-in-3 : goal.returns-in-3
+unfolding told told_refusal
+returns-in-3 c = search rules
 
-pub returns : goal.returns
+pub returns-in_default : goal.returns-in_default
 unfolding told
-returns c = sym (ap (λ b. cond b (plain 15) (plain 0)) (ne_eqb _ 3 c.if-kind-eq3.false))
+returns-in_default c = search rules

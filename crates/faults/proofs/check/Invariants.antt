@@ -15,6 +15,3 @@ invariant-loop-n l =
     (l.n ≤ all_offsets)
     × (seek (fault_test (shape_by l.outline l.cells) (shapes_of (take l.k l.links))) l.n (all_offsets - l.n)
     ≡ check_of (shape_by l.outline l.cells) (shapes_of (take l.k l.links)))
-
-abbrev pub decreases-loop-n : goal.decreases-loop-n
-decreases-loop-n l = all_offsets - l.n

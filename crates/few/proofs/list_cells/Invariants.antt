@@ -8,6 +8,3 @@ abbrev pub invariant-loop-r : goal.invariant-loop-r
 invariant-loop-r l =
     (l.r ≤ l.o.h) × (Rowed l.grows l.w l.o l.words l.r l.n l.at × Counted l.n 0
     (cells_in l.words l.o.w l.r))
-
-abbrev pub decreases-loop-r : goal.decreases-loop-r
-decreases-loop-r l = l.o.h - l.r

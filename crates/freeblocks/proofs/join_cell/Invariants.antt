@@ -1,6 +1,6 @@
 -- Invariant: i bytes of the block are joined, the others as they came. What falls: the bytes left.
 -- What a turn reads of the block it has not written yet.
-use Prim.Native.Nat.{◌+◌, ◌-◌, ◌≤◌}
+use Prim.Native.Nat.{◌+◌, ◌≤◌}
 use Rattle.blocks.specs.Steps.Laid.{laid}
 use Rattle.rows.specs.Steps.Fold.{join_by}
 use Rattle.freeblocks.specs.Steps.Plain.{plain_by}
@@ -13,6 +13,3 @@ invariant-loop-i l =
     (l.i ≤ 128) × (length l.c ≡ 128) × (length l.initial.c ≡ 128)
     × (l.c ≡ laid 0 l.i
     (λ i. join_by l.grows (get_or l.initial.c i 0) (plain_by l.up l.g (get_or l.b (l.at + i) 0))) l.initial.c)
-
-abbrev pub decreases-loop-i : goal.decreases-loop-i
-decreases-loop-i l = 128 - l.i

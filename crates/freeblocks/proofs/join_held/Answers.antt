@@ -9,10 +9,6 @@ use Rattle.freeblocks.proofs.join_held.Goals as goal
 pub loop-k-init : goal.loop-k-init
 loop-k-init c = (search rules, search rules, search rules, held_none _ _ _ _ _ _)
 
-pub join_both-d-requires : goal.join_both-d-requires
-join_both-d-requires c =
-    (omega (arith, c.requires.b_len.0, c.requires.from_le_n), c.requires.b_len.1)
-
 pub loop-k-preserved : goal.loop-k-preserved
 loop-k-preserved c =
     let a = c.args in
@@ -25,9 +21,6 @@ loop-k-preserved c =
           p.new.t a.from l.k l.invariant.0 (omega arith) l.invariant.3 c.block_at-c.ensures
           c.join_both-d.ensures p.ensures,
     )
-
-pub shape_of-t : goal.shape_of-t
-shape_of-t c = c.loop-k.invariant.2
 
 pub returns : goal.returns
 returns c =

@@ -12,6 +12,3 @@ invariant-loop-k l =
     (l.from ≤ l.k) × (l.k ≤ l.n) × (length l.t ≡ length l.initial.t)
     × (l.t ≡ laid (64 * l.from) (64 * l.k - 64 * l.from)
     (later l.grows l.b l.rising l.others l.initial.t l.from) l.initial.t)
-
-abbrev pub decreases-loop-k : goal.decreases-loop-k
-decreases-loop-k l = l.n - l.k

@@ -14,8 +14,8 @@ loop-i-preserved c =
     let l = c.loop-i in
     let a = c.args in (
       search rules,
-      least_more a.grows a.t.now l.w c.lesser_byte-w.result l.i l.invariant.1
-          (c.lesser_byte-w.ensures ∙ ap (min l.w) c.turned.ensures),
+      least_more a.grows a.t.now l.w c.min-w.result l.i l.invariant.1
+          (c.min-w.ensures ∙ ap (min l.w) c.turned.ensures),
     )
 
 pub returns : goal.returns

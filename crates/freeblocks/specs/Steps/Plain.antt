@@ -1,5 +1,5 @@
 -- Rows joined with what cells find where nothing holds a value at the end.
-use Rattle.std.specs.Prelude.{ℕ, ◌+◌, ◌-◌, ◌*◌, ◌/◌, ◌%◌, ◌≤◌, ◌<◌, min, ◌≡◌, Bool, true, false, not}
+use Rattle.std.specs.Prelude.{ℕ, ◌+◌, ◌-◌, ◌*◌, ◌/◌, ◌%◌, ◌≤◌, ◌<◌, min, Bool, true, false, not}
 use Rattle.std.specs.Prelude.{List, leb, get_or, length}
 use Rattle.basics.specs.Lists.{firsts}
 use Rattle.morphology.specs.Operations.{fold}

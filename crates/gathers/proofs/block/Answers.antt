@@ -1,7 +1,7 @@
 use Rattle.rooms.proofs.Blocks.{places_at, places_more, places_length}
 use Rattle.gathers.proofs.Gathered.{block_first, block_all}
 use Prim.Native.Nat.{◌+◌}
-use mathlib.Core.Path.{◌≡◌, ap, ◌∙◌}
+use mathlib.Core.Path.{◌≡◌, refl, ap, ◌∙◌}
 use native.Mathlib.Omega.{arith}
 use borrow.Author.Rules.{rules}
 use lib.ListN.{length}
@@ -12,7 +12,6 @@ overflow_add-i c =
     omega (
       arith,
       c.requires.reached 0 c.requires.at_nonzero,
-      c.wide.ensures,
     )
 
 pub block_at-acc-requires : goal.block_at-acc-requires
@@ -20,7 +19,6 @@ block_at-acc-requires c =
     omega (
       arith,
       c.requires.reached 0 c.requires.at_nonzero,
-      c.wide.ensures,
     )
 
 pub loop-j-init : goal.loop-j-init
@@ -32,7 +30,7 @@ loop-j-init c =
         (
           search rules,
           block_first a.grows a.s.now a.at.now c.block_at-acc.result a.i _
-              c.wide.ensures c.block_at-acc.ensures (search rules),
+              refl c.block_at-acc.ensures (search rules),
         ),
       ),
     )
@@ -42,7 +40,6 @@ overflow_add-i-in-loop-j c =
     omega (
       arith,
       c.requires.reached c.loop-j.j (omega arith),
-      c.wide-in-loop-j.ensures,
     )
 
 pub join_block-next-requires : goal.join_block-next-requires
@@ -50,7 +47,6 @@ join_block-next-requires c =
     omega (
       arith,
       c.requires.reached c.loop-j.j (omega arith),
-      c.wide-in-loop-j.ensures,
     )
 
 pub loop-j-preserved : goal.loop-j-preserved
@@ -58,7 +54,7 @@ loop-j-preserved c =
     let l = c.loop-j in
     let a = c.args in
     let e = places_more a.grows c.block_at-acc.result a.s.now a.i a.at.now l.acc
-    c.join_block-next.result _ l.j l.invariant.1.1.1 c.wide-in-loop-j.ensures c.join_block-next.ensures in (
+    c.join_block-next.result _ l.j l.invariant.1.1.1 refl c.join_block-next.ensures in (
       omega arith,
       (
         search rules,
@@ -74,6 +70,6 @@ returns c =
     let a = c.args in
     let e : c.loop-j.j ≡ length a.at.now = omega arith in
     block_all a.grows a.s.now a.at.now c.block_at-acc.result a.i _
-    c.wide.ensures c.block_at-acc.ensures _
+    refl c.block_at-acc.ensures _
     (c.loop-j.invariant.1.1.1
     ∙ ap (places_at a.grows c.block_at-acc.result a.s.now a.i a.at.now) e)

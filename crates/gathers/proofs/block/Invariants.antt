@@ -10,6 +10,3 @@ abbrev pub invariant-loop-j : goal.invariant-loop-j
 invariant-loop-j l =
     (1 ≤ l.j) × ((l.j ≤ length l.at) × ((length l.acc ≡ 64) × (l.acc ≡ places_at
     l.grows l.initial.acc l.s l.i l.at l.j)))
-
-abbrev pub decreases-loop-j : goal.decreases-loop-j
-decreases-loop-j l = length l.at - l.j

@@ -11,6 +11,3 @@ abbrev pub invariant-loop-k : goal.invariant-loop-k
 invariant-loop-k l =
     (l.k ≤ l.n) × ((length l.t ≡ length l.initial.t) × (l.t ≡ laid l.from (64 * l.k) (at_all
     l.grows l.s l.at) l.initial.t))
-
-abbrev pub decreases-loop-k : goal.decreases-loop-k
-decreases-loop-k l = l.n - l.k

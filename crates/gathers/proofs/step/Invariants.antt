@@ -13,6 +13,3 @@ invariant-loop-i l =
     (l.i ≤ l.n) × ((length l.t ≡ length l.initial.t)
     × (l.t ≡ stepped l.a l.w l.i
     (λ i. at_places l.grows (start_by l.grows 255) l.s (i * l.w) l.at (length l.at)) l.initial.t))
-
-abbrev pub decreases-loop-i : goal.decreases-loop-i
-decreases-loop-i l = l.n - l.i

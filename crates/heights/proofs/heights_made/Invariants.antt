@@ -1,14 +1,10 @@
--- Invariant: the heights of the rows before y are well made; y goes up to h, so that h - y falls.
+-- Invariant: the heights of the rows before y are well made.
 -- A row's answer is the definition's test of it, and both pictures hold row y, which is below h.
 use Rattle.element.specs.Descriptor.{heights_made_in}
 use Rattle.basics.specs.Tests.{all}
-use Prim.Native.Nat.{◌≤◌, ◌-◌}
 use mathlib.Core.Bool.{true}
 use mathlib.Core.Path.{◌≡◌}
 use Rattle.heights.proofs.heights_made.Given as goal
 
 abbrev pub invariant-loop-y : goal.invariant-loop-y
-invariant-loop-y l = (l.y ≤ l.h) × (all (heights_made_in l.cells l.heights l.w) l.y ≡ true)
-
-abbrev pub decreases-loop-y : goal.decreases-loop-y
-decreases-loop-y l = l.h - l.y
+invariant-loop-y l = all (heights_made_in l.cells l.heights l.w) l.y ≡ true

@@ -2,7 +2,7 @@
 -- What falls: the cells left. A number is stored at n and at m, which are at most c: `cells_taken`.
 use Rattle.heightsigns.specs.Steps.Taken.{count_of, cells_of}
 use lib.ListN.{length}
-use Prim.Native.Nat.{◌-◌, ◌≤◌}
+use Prim.Native.Nat.{◌≤◌}
 use mathlib.Core.Bool.{true, false}
 use mathlib.Core.Path.{◌≡◌}
 use Rattle.heightsigns.proofs.cells_both.Given as goal
@@ -15,6 +15,3 @@ invariant-loop-c l =
     × (l.m ≡ count_of false l.word l.heights l.first l.c))
     × ((l.rising ≡ cells_of l.grows true l.word l.o l.heights l.first l.initial.rising l.c)
     × (l.others ≡ cells_of l.grows false l.word l.o l.heights l.first l.initial.others l.c))
-
-abbrev pub decreases-loop-c : goal.decreases-loop-c
-decreases-loop-c l = l.wide - l.c

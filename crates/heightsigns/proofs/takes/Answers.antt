@@ -18,6 +18,3 @@ returns-else-on_side c =
       sym
           c.on_side.ensures ∙ c.if-on_side.false,
     )
-
-pub returns-else-cell : goal.returns-else-cell
-returns-else-cell c = simp (sym c.cell.ensures ∙ c.if-cell.false)

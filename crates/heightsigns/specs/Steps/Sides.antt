@@ -1,5 +1,5 @@
 -- A height taken apart: whether it raises, and its size.
-use Rattle.std.specs.Prelude.{ℕ, ◌-◌, Bool, true, false, cond, not, eqb, ltb}
+use Rattle.std.specs.Prelude.{ℕ, ◌-◌, Bool, false, cond, not, eqb, ltb}
 
 abbrev pub rises_of : ℕ → Bool
 rises_of g = cond (eqb g 0) false (ltb g 128)

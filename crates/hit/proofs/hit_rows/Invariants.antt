@@ -4,7 +4,7 @@ use Rattle.rows.proofs.Written.{rows_written}
 use Rattle.hit.specs.Steps.Rows.{hit_at}
 use Rattle.picture.specs.declared.Depth.TheVariants.{OneBit}
 use lib.ListN.{length}
-use Prim.Native.Nat.{◌-◌, ◌≤◌}
+use Prim.Native.Nat.{◌≤◌}
 use mathlib.Core.Path.{◌≡◌}
 use Rattle.hit.proofs.hit_rows.Given as goal
 
@@ -12,6 +12,3 @@ abbrev pub invariant-loop-y : goal.invariant-loop-y
 invariant-loop-y l =
     (l.y ≤ l.h) × (length l.t ≡ length l.initial.t)
     × (l.t ≡ rows_written OneBit (hit_at l.s l.w l.h l.hit l.hits l.miss l.misses) l.w l.initial.t l.y)
-
-abbrev pub decreases-loop-y : goal.decreases-loop-y
-decreases-loop-y l = l.h - l.y

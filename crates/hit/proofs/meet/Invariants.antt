@@ -1,6 +1,6 @@
 -- Invariant: the first i bytes have only the bits of both, the others as they were. Falls: the bytes left.
 -- No byte is read after its own store.
-use Prim.Native.Nat.{◌≤◌, ◌-◌}
+use Prim.Native.Nat.{◌≤◌}
 use mathlib.Core.Path.{◌≡◌}
 use lib.ListN.{length, take}
 use lib.Bits.{bit_and}
@@ -11,6 +11,3 @@ abbrev pub invariant-loop-i : goal.invariant-loop-i
 invariant-loop-i l =
     (l.i ≤ length l.by) × (length l.t ≡ length l.initial.t)
     × (l.t ≡ zip_in bit_and l.initial.t (take l.i l.by))
-
-abbrev pub decreases-loop-i : goal.decreases-loop-i
-decreases-loop-i l = length l.by - l.i

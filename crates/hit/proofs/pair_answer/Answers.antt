@@ -1,5 +1,6 @@
 -- The tests in the order of the refusals, each settled by the call before it.
 -- The overlap is looked for only where both descriptors are well made.
+use Rattle.answer.specs.Answer.{told}
 use Rattle.hit.proofs.Pairs.{first_unmade, second_unmade, overlapping, apart}
 use Rattle.element.specs.Descriptor.{well_made, shape_in}
 use Rattle.morphology.specs.Overlap.{shared}
@@ -16,6 +17,7 @@ two : (c : Else-not-two) → well_made c.args.miss.now ≡ true
 two c = sym c.well_made-two.ensures ∙ c.if-not-two.false
 
 pub returns-then-not-one : goal.returns-then-not-one
+unfolding told
 returns-then-not-one c =
     let a = c.args in
     first_unmade (well_made a.hit.now) (well_made a.miss.now)
@@ -23,6 +25,7 @@ returns-then-not-one c =
     (sym c.well_made-one.ensures ∙ c.if-not-one.true)
 
 pub returns-then-not-two : goal.returns-then-not-two
+unfolding told
 returns-then-not-two c =
     let a = c.args in
     second_unmade (well_made a.hit.now) (well_made a.miss.now)
@@ -37,12 +40,14 @@ is_shared-requires c =
     }
 
 pub returns-then-is_shared : goal.returns-then-is_shared
+unfolding told
 returns-then-is_shared c =
     overlapping _ _ _ (one (goal.at.returns-then-is_shared c).Else-not-one)
     (two (goal.at.returns-then-is_shared c).Else-not-two)
     (sym c.is_shared.ensures ∙ c.if-is_shared.true)
 
 pub returns : goal.returns
+unfolding told
 returns c =
     apart _ _ _ (one (goal.at.returns c).Else-not-one) (two (goal.at.returns c).Else-not-two)
     (sym c.is_shared.ensures ∙ c.if-is_shared.false)

@@ -11,14 +11,14 @@ unfolding with_cell
 returns-then-cell c =
     sym (seen_on _ _ _ _ (sym c.cell.ensures ∙ c.if-cell.true)
     ∙ λ i. record {
-      left = sym c.lesser.ensures i;
-      right = sym c.greater.ensures i;
-      top = sym c.lesser-then-cell.ensures i;
-      bottom = sym c.greater-then-cell.ensures i;
-      nearest = sym c.lesser-then-cell-2.ensures i;
-      farthest = sym c.greater-then-cell-2.ensures i;
-      lowest = sym c.lesser-then-cell-3.ensures i;
-      highest = sym c.greater-then-cell-3.ensures i;
+      left = sym c.min.ensures i;
+      right = sym c.max.ensures i;
+      top = sym c.min-then-cell.ensures i;
+      bottom = sym c.max-then-cell.ensures i;
+      nearest = sym c.min-then-cell-2.ensures i;
+      farthest = sym c.max-then-cell-2.ensures i;
+      lowest = sym c.min-then-cell-3.ensures i;
+      highest = sym c.max-then-cell-3.ensures i;
     })
 
 pub returns : goal.returns

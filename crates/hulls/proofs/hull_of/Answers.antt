@@ -9,6 +9,6 @@ returns c =
     c.side_of-across.ensures c.side_of-down.ensures
     c.cut_of.ensures c.cut_of-2.ensures c.cut_of-3.ensures
     c.cut_of-4.ensures
-    c.lesser.ensures c.lesser-left.ensures
-    c.lesser-2.ensures c.lesser-top.ensures
+    c.min.ensures c.min-left.ensures
+    c.min-2.ensures c.min-top.ensures
     c.own_rows-own.ensures

@@ -10,4 +10,4 @@ pub returns : goal.returns
 unfolding own_row
 returns c =
     let a = c.args in
-    ap (λ n. get_or a.cells.now n 0 * 2 ^ a.left % 2 ^ 64 / 2 ^ 56) c.lesser-at.ensures
+    ap (λ n. get_or a.cells.now n 0 * 2 ^ a.left % 2 ^ 64 / 2 ^ 56) c.min-at.ensures

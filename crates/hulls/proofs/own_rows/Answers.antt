@@ -2,7 +2,6 @@ use Prim.Native.Nat.{ℕ}
 use native.Mathlib.Omega.{arith}
 use lib.ListN.{replicate, length-replicate}
 use Rattle.basics.proofs.Lists.{over_none, over_more, over_whole}
-use Rattle.hulls.specs.Hull.{own_row}
 use Rattle.hulls.proofs.own_rows.Goals as goal
 
 pub loop-r-init : goal.loop-r-init

@@ -1,6 +1,6 @@
 -- Invariant: the first r rows are there.
 -- What falls: the rows that are left.
-use Prim.Native.Nat.{ℕ, ◌-◌, ◌≤◌}
+use Prim.Native.Nat.{ℕ, ◌≤◌}
 use mathlib.Core.Path.{◌≡◌}
 use mathlib.Core.List.{◌++◌}
 use lib.ListN.{drop, replicate}
@@ -11,6 +11,3 @@ use Rattle.hulls.proofs.own_rows.Given as goal
 abbrev pub invariant-loop-r : goal.invariant-loop-r
 invariant-loop-r l =
     (l.r ≤ 8) × (l.rows ≡ firsts (own_row l.cells l.left l.top) l.r ++ drop l.r (replicate {A = ℕ} 8 0))
-
-abbrev pub decreases-loop-r : goal.decreases-loop-r
-decreases-loop-r l = 8 - l.r

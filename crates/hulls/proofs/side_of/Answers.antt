@@ -5,6 +5,6 @@ use Rattle.hulls.proofs.side_of.Goals as goal
 
 pub returns : goal.returns
 returns c =
-    side_is _ _ _ _ _ _ _ _ _ c.lesser-start.ensures
-    c.greater.ensures c.less.ensures
-    c.less-2.ensures c.less-3.ensures c.less-4.ensures
+    side_is _ _ _ _ _ _ _ _ _ c.min-start.ensures
+    c.max.ensures c.saturating_sub.ensures
+    c.saturating_sub-2.ensures c.saturating_sub-3.ensures c.saturating_sub-4.ensures

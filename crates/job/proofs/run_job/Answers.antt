@@ -33,10 +33,10 @@ returns-then-job-gt-MOST_JOB c =
       text = p.1.1.1.1.1;
     }
 
-pub returns-in-For : goal.returns-in-For
-returns-in-For c =
+pub returns-in-Some : goal.returns-in-Some
+returns-in-Some c =
     let p = job_done _ _ _ _ _ _ _ _ _ _ c.if-job-lt2.false c.if-job-gt-MOST_JOB.false _ _
-    (sym c.in-For.is ∙ c.asked_of-asked.ensures) (tail_is c.args.job.now 2)
+    (sym c.in-Some.is ∙ c.asked_of.ensures) (tail_is c.args.job.now 2)
     c.by_flag.ensures in
     record {
       answer = p.0;
@@ -47,11 +47,11 @@ returns-in-For c =
       text = p.1.1.1.1.1;
     }
 
-pub returns-in-Nothing : goal.returns-in-Nothing
-returns-in-Nothing c =
+pub returns-in-None : goal.returns-in-None
+returns-in-None c =
     let p = job_not _ _ _ _ _ (nothing_asked _ _ _ _ _ c.if-job-lt2.false c.if-job-gt-MOST_JOB.false
-    (sym c.in-Nothing.is ∙ c.asked_of-asked.ensures)) _ _
-    (c.refused-in-Nothing.ensures.answer_value, c.refused-in-Nothing.ensures.text_after) in
+    (sym c.in-None.is ∙ c.asked_of.ensures)) _ _
+    (c.refused-in-None.ensures.answer_value, c.refused-in-None.ensures.text_after) in
     record {
       answer = p.0;
       length = p.1.0;

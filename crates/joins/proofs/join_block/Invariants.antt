@@ -12,6 +12,3 @@ invariant-loop-i l =
     (l.i ≤ 64) × (length l.c ≡ 64) × (length l.initial.c ≡ 64)
     × (l.c ≡ laid 0 l.i (λ i. join_at l.packed l.grows (get_or l.initial.c i 0) (get_or l.b (l.at + i) 0))
     l.initial.c)
-
-abbrev pub decreases-loop-i : goal.decreases-loop-i
-decreases-loop-i l = 64 - l.i

@@ -11,12 +11,6 @@ use Rattle.labels.proofs.unite_point.Goals as goal
 pub loop-k-init : goal.loop-k-init
 loop-k-init c = (search rules, refl, mates_none _ _ _ _ _)
 
-pub mate-m-requires : goal.mate-m-requires
-mate-m-requires c = search rules
-
-pub overflow_add-i : goal.overflow_add-i
-overflow_add-i c = omega (arith, c.requires.i_bound, c.requires.framed.few_points)
-
 pub unite-requires : goal.unite-requires
 unite-requires c =
     let a = c.args in
@@ -24,12 +18,6 @@ unite-requires c =
     (subst (λ n. n ≤ a.i + 1) (sym c.mate-m.ensures)
     (mate_le a.w a.h (point_of a.s.now a.w) c.requires.framed.some_pings a.i c.requires.i_bound _))
     c.loop-k.invariant.1
-
-pub overflow_add-k : goal.overflow_add-k
-overflow_add-k c = omega arith
-
-pub loop-k-smaller : goal.loop-k-smaller
-loop-k-smaller c = omega arith
 
 pub loop-k-preserved : goal.loop-k-preserved
 loop-k-preserved c =
@@ -40,9 +28,6 @@ loop-k-preserved c =
       mates_more _ _ _ _ _ l.up _ l.k _ l.invariant.2 c.mate-m.ensures
           u.ensures,
     )
-
-pub shape_of-up : goal.shape_of-up
-shape_of-up c = c.loop-k.invariant.1
 
 pub returns : goal.returns
 returns c = mates_all _ _ _ _ _ _ c.loop-k.k (omega arith) c.loop-k.invariant.2

@@ -4,13 +4,10 @@ use Rattle.regions.specs.Steps.Union.{mates_united}
 use Rattle.regions.specs.Regions.{point_of}
 use lib.ListN.{length}
 use mathlib.Core.Path.{◌≡◌}
-use Prim.Native.Nat.{◌-◌, ◌≤◌}
+use Prim.Native.Nat.{◌≤◌}
 use Rattle.labels.proofs.unite_point.Given as goal
 
 abbrev pub invariant-loop-k : goal.invariant-loop-k
 invariant-loop-k l =
     (l.k ≤ 5) × (length l.up ≡ length l.initial.up)
     × (l.up ≡ mates_united (point_of l.s l.w) l.w l.h l.i l.initial.up l.k)
-
-abbrev pub decreases-loop-k : goal.decreases-loop-k
-decreases-loop-k l = 5 - l.k

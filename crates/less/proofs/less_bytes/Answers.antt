@@ -1,27 +1,11 @@
 use borrow.Author.Rules.{rules}
-use native.Mathlib.Omega.{arith}
 use lib.ListN.{length-set}
 use Rattle.less.specs.Steps.Sides.{less_by}
 use Rattle.basics.proofs.Zip.{zip_none, zip_store, zip_all}
 use Rattle.less.proofs.less_bytes.Goals as goal
 
 pub loop-i-init : goal.loop-i-init
-loop-i-init c = (search rules, search rules, zip_none (less_by c.args.k) _)
-
-pub bounds-t-i : goal.bounds-t-i
-bounds-t-i c = omega arith
-
-pub bounds-by-i : goal.bounds-by-i
-bounds-by-i c = omega arith
-
-pub bounds-t-i-in-loop-i : goal.bounds-t-i-in-loop-i
-bounds-t-i-in-loop-i c = omega arith
-
-pub overflow_add-i : goal.overflow_add-i
-overflow_add-i c = omega arith
-
-pub loop-i-smaller : goal.loop-i-smaller
-loop-i-smaller c = omega arith
+loop-i-init c = (search rules, search rules, zip_none (less_by c.args.depth c.args.from) _)
 
 pub loop-i-preserved : goal.loop-i-preserved
 loop-i-preserved c =
@@ -29,14 +13,11 @@ loop-i-preserved c =
     let a = c.args in (
       search rules,
       simp length-set l.invariant.1,
-      zip_store (less_by a.k) a.t.now a.by.now l.t l.i
+      zip_store (less_by a.depth a.from) a.t.now a.by.now l.t l.i
           (search rules) l.invariant.2 c.less_by.result c.less_by.ensures,
     )
 
-pub shape_of-t : goal.shape_of-t
-shape_of-t c = c.loop-i.invariant.1
-
 pub returns : goal.returns
 returns c =
-    zip_all (less_by c.args.k) _ _ _ _ c.loop-i-test.false
+    zip_all (less_by c.args.depth c.args.from) _ _ _ _ c.loop-i-test.false
     c.loop-i.invariant.2

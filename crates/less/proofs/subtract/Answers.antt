@@ -8,6 +8,7 @@ use lib.ListN.{length, take}
 use lib.Seq.{length-take-le}
 use mathlib.Core.Path.{◌≡◌, sym, ap}
 use native.Mathlib.Omega.{arith}
+use Rattle.std.proofs.Common.{rules}
 use Rattle.less.proofs.subtract.Goals as goal
 
 pub overflow_mul-m : goal.overflow_mul-m
@@ -40,9 +41,8 @@ returns c =
     let a = c.args in
     subtracted a.depth a.from a.w a.h a.other.now a.target.now
     (λ i. let l = c.type_inv.other i in omega arith)
-    (λ i. let l = c.slice_known-1.given i in omega arith)
-    c.requires.holds.long c.requires.holds_2.long _ _ _ _
-    (λ j. record { eight = c.is_eight.ensures j; own = c.is_own.ensures j })
+    (λ i. search rules)
+    c.requires.holds.long c.requires.holds_2.long _ _ _
     (ap (λ n. a.h * n) c.row_bytes.ensures)
     c.less_bytes.ensures
     c.clear_padding.ensures

@@ -7,7 +7,7 @@ use Rattle.picture.specs.declared.Depth.TheVariants.{OneBit}
 use Rattle.picture.specs.Frame.{sized_frame, picture_bytes}
 use Rattle.judge.proofs.Admitted.{bytes_are, holds}
 use Rattle.judge.specs.declared.Padding.TheVariants.{Free}
-use Rattle.answer.specs.Answer.{told}
+use Rattle.answer.specs.Answer.{told, told_refusal}
 use mathlib.Core.Bool.{true}
 use mathlib.Core.Path.{◌≡◌, sym, ◌∙◌}
 use native.Mathlib.Nat.{le_of_eq}
@@ -41,14 +41,14 @@ fits_known c = let a = c.args in
     (marker_known (goal.at.Else-mask-n c).Else-marker-n) (mask_known c)
 
 pub returns-then-not-sized : goal.returns-then-not-sized
-unfolding told
+unfolding told told_refusal
 returns-then-not-sized c =
     let a = c.args in
     not_seen _ _ (no_size a.w a.h a.marker.now a.mask.now
     (sym c.sized.ensures ∙ c.if-not-sized.true))
 
 pub returns-then-marker-n : goal.returns-then-marker-n
-unfolding told
+unfolding told told_refusal
 returns-then-marker-n c =
     let z = size_known (goal.at.returns-then-marker-n c).Else-not-sized in
     let a = c.args in
@@ -56,7 +56,7 @@ returns-then-marker-n c =
     not_seen _ _ (no_marker a.w a.h a.marker.now a.mask.now z (λ e. c.if-marker-n.true (e ∙ sym n)))
 
 pub returns-then-mask-n : goal.returns-then-mask-n
-unfolding told
+unfolding told told_refusal
 returns-then-mask-n c =
     let a = c.args in
     not_seen _ _ (no_mask a.w a.h a.marker.now a.mask.now
@@ -74,12 +74,12 @@ lies_within-requires c =
     }
 
 pub returns-then-lies_within : goal.returns-then-lies_within
-unfolding told
+unfolding told told_refusal
 returns-then-lies_within c =
     (seen _ _ _ (fits_known (goal.at.returns-then-lies_within c).Else-mask-n) c.lies_within.ensures).0
     c.if-lies_within.true
 
 pub returns : goal.returns
-unfolding told
+unfolding told told_refusal
 returns c =
     (seen _ _ _ (fits_known (goal.at.returns c).Else-mask-n) c.lies_within.ensures).1 c.if-lies_within.false

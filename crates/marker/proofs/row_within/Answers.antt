@@ -1,6 +1,5 @@
 use Rattle.marker.proofs.Within.{row_stopped, row_passed}
 use Rattle.basics.proofs.Tests.{all_none, all_more}
-use mathlib.Core.Bool.{true}
 use mathlib.Core.Path.{sym, ◌∙◌}
 use native.Mathlib.Omega.{arith}
 use borrow.Author.Rules.{rules}

@@ -2,7 +2,6 @@ use Rattle.marker.specs.Steps.Bytes.{row_within, rows_within}
 use Rattle.picture.proofs.Sizes.{row_room}
 use Rattle.basics.proofs.Tests.{all_none, all_more, all_stop, all_done}
 use Prim.Native.Nat.{◌*◌}
-use mathlib.Core.Bool.{true}
 use mathlib.Core.Path.{sym, ◌∙◌}
 use native.Mathlib.Omega.{arith}
 use borrow.Author.Rules.{rules}

@@ -17,9 +17,6 @@ loop-r-init c =
           a.y.0 a.o.origin.ping.0 a.o.origin.bin.0 (λ i. masked_of (get_or a.words.now i 0) a.o.w),
     )
 
-pub loop-r-smaller : goal.loop-r-smaller
-loop-r-smaller c = let e = c.same_end-e.ensures in omega (arith, e.some, e.few)
-
 pub loop-r-preserved : goal.loop-r-preserved
 loop-r-preserved c =
     let e = c.same_end-e.ensures in

@@ -10,5 +10,5 @@ returns c =
     let one = c.put_points in
     let two = c.put_points-2 in
     put_both a.over a.x a.w c.requires.0 one.ensures.known two.ensures.known _ _ a.t.now _ _
-    (omega (arith, c.requires.0, c.requires.1)) c.lesser-m.ensures c.past.ensures
+    (omega (arith, c.requires.0, c.requires.1)) c.min-m.ensures c.saturating_sub.ensures
     one.ensures.bytes two.ensures.bytes

@@ -14,12 +14,6 @@ near c = row_near c.loop-i.i c.args.n c.args.end c.loop-i-test.true c.requires.1
 pub loop-i-init : goal.loop-i-init
 loop-i-init c = (search rules, (search rules, rows_none _ _ _ _ _))
 
-pub overflow_mul-i : goal.overflow_mul-i
-overflow_mul-i c = omega (arith, near c)
-
-pub row_at-requires : goal.row_at-requires
-row_at-requires c = (omega (arith, near c), search rules)
-
 pub loop-i-preserved : goal.loop-i-preserved
 loop-i-preserved c =
     let l = c.loop-i in let a = c.args in (

@@ -1,11 +1,7 @@
 -- Invariant: the rows from r on, before e, are the same. Falls: the rows left.
 -- It stops at the first other one.
 use Rattle.narrow.specs.Steps.Row.{SameRows}
-use Prim.Native.Nat.{◌-◌}
 use Rattle.narrow.proofs.same_end.Given as goal
 
 abbrev pub invariant-loop-e : goal.invariant-loop-e
 invariant-loop-e l = SameRows l.words l.r l.h l.e
-
-abbrev pub decreases-loop-e : goal.decreases-loop-e
-decreases-loop-e l = l.h - l.e

@@ -1,7 +1,6 @@
 use Prim.Native.Nat.{ℕ, ◌≤◌, ◌<◌}
 use native.Mathlib.Omega.{arith}
 use mathlib.Core.Path.{◌≡◌, ap, ◌∙◌, subst}
-use mathlib.Core.Bool.{true}
 use Rattle.packedline.specs.Steps.Cells.{place_of}
 use Rattle.narrow.proofs.Cells.{run_some, Through, through_none, through_more}
 use Rattle.narrow.proofs.spread.Goals as goal
@@ -25,25 +24,15 @@ loop-c-init c =
       ),
     )
 
-pub overflow_sub-e : goal.overflow_sub-e
-overflow_sub-e c = omega (arith, some c)
-
 pub end_cell-requires : goal.end_cell-requires
 end_cell-requires c =
     (omega (arith, some c), omega (arith, some c, c.next_cell-e.ensures.few))
-
-pub overflow_sub-e-in-loop-c : goal.overflow_sub-e-in-loop-c
-overflow_sub-e-in-loop-c c =
-    omega (arith, some (goal.at.overflow_sub-e-in-loop-c c).After-next_cell-e)
 
 pub windows-requires : goal.windows-requires
 windows-requires c = (
   omega (arith, some (goal.at.windows-requires c).After-next_cell-e),
   omega (arith, c.next_cell-e.ensures.few),
 )
-
-pub next_cell-c-requires-in-loop-c : goal.next_cell-c-requires-in-loop-c
-next_cell-c-requires-in-loop-c c = c.next_cell-e.ensures.few
 
 pub loop-c-smaller : goal.loop-c-smaller
 loop-c-smaller c =

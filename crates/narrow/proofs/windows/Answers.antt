@@ -1,16 +1,10 @@
-use Rattle.narrow.proofs.Strips.{window_one, window_more}
+use Rattle.narrow.proofs.Strips.{window_more}
 use mathlib.Core.Path.{refl}
 use native.Mathlib.Nat.{le_refl}
 use native.Mathlib.Omega.{arith}
 use Prim.Native.Nat.{◌+◌, ◌-◌}
 use borrow.Author.Rules.{rules}
 use Rattle.narrow.proofs.windows.Goals as goal
-
-pub returns-then-n-eq1 : goal.returns-then-n-eq1
-returns-then-n-eq1 c = window_one c.args.x c.args.n c.if-n-eq1.true
-
-pub loop-m-init : goal.loop-m-init
-loop-m-init c = (search rules, (search rules, window_one _ 1 refl))
 
 pub loop-m-preserved : goal.loop-m-preserved
 loop-m-preserved c =

@@ -1,9 +1,8 @@
 -- A padded row in three words: the first place is the highest digit of the first word.
-use Rattle.std.specs.Prelude.{ℕ, zero, suc, ◌+◌, ◌-◌, ◌*◌, ◌/◌, ◌%◌, ◌^◌, ◌≤◌, ◌<◌, ◌≡◌, Bool, true}
-use Rattle.std.specs.Prelude.{false, cond, ◌&&◌, List, leb, ltb, get_or}
-use Rattle.basics.specs.Bits.{bit, digits}
+use Rattle.std.specs.Prelude.{ℕ, zero, suc, ◌+◌, ◌-◌, ◌/◌, ◌%◌, ◌<◌, ◌≡◌, Bool, true}
+use Rattle.std.specs.Prelude.{cond, List, ltb}
+use Rattle.basics.specs.Bits.{bit}
 use Rattle.packedline.specs.Steps.Cells.{cell_on64, place_of}
-use Rattle.packedline.specs.Steps.Line.{faced_point}
 use Rattle.words.specs.Steps.Words.{row_point}
 use Rattle.narrow.specs.declared.Strip.{Strip}
 

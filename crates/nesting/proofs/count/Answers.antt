@@ -1,4 +1,4 @@
-use Rattle.regions.proofs.Counts.{count_none, count_more, count_all, count_le}
+use Rattle.regions.proofs.Counts.{count_none, count_more, count_le}
 use Rattle.nesting.specs.Steps.Tree.{at}
 use borrow.Author.Rules.{rules}
 use native.Mathlib.Omega.{arith}
@@ -6,12 +6,6 @@ use Rattle.nesting.proofs.count.Goals as goal
 
 pub loop-i-init : goal.loop-i-init
 loop-i-init c = (search rules, count_none _ _)
-
-pub overflow_add-i : goal.overflow_add-i
-overflow_add-i c = omega arith
-
-pub belongs-k-requires : goal.belongs-k-requires
-belongs-k-requires c = omega arith
 
 pub overflow_add-k : goal.overflow_add-k
 overflow_add-k c =
@@ -24,16 +18,7 @@ overflow_add-k c =
           c.loop-i.i,
     )
 
-pub overflow_add-i-in-loop-i : goal.overflow_add-i-in-loop-i
-overflow_add-i-in-loop-i c = omega arith
-
-pub loop-i-smaller : goal.loop-i-smaller
-loop-i-smaller c = omega arith
-
 pub loop-i-preserved : goal.loop-i-preserved
 loop-i-preserved c =
     let l = c.loop-i in
     (search rules, count_more _ _ l.k _ l.i l.invariant.1 c.belongs-k.ensures.0)
-
-pub returns : goal.returns
-returns c = count_all _ _ _ c.loop-i.i _ (omega arith) c.loop-i.invariant.1

@@ -5,7 +5,7 @@ use Rattle.regions.specs.Listing.{inner_of}
 use Rattle.nesting.specs.Steps.Tree.{at}
 use lib.ListN.{length, take}
 use mathlib.Core.Path.{◌≡◌}
-use Prim.Native.Nat.{◌≤◌, ◌-◌}
+use Prim.Native.Nat.{◌≤◌}
 use Rattle.nesting.proofs.gather.Given as goal
 
 abbrev pub invariant-loop-i : goal.invariant-loop-i
@@ -13,6 +13,3 @@ invariant-loop-i l =
     (l.i ≤ l.n) × (l.k ≤ l.i) × (length l.inner ≡ length l.initial.inner)
     × (l.k ≡ length (inner_of (at l.labels) l.i))
     × (take l.k l.inner ≡ inner_of (at l.labels) l.i)
-
-abbrev pub decreases-loop-i : goal.decreases-loop-i
-decreases-loop-i l = l.n - l.i

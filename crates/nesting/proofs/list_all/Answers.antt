@@ -1,27 +1,11 @@
 -- The first nodes are gathered, and the part of them that is there is handed on with the labels.
 -- The outer region is listed as a hole: node 0, at depth 0, before any other.
 use native.Mathlib.Omega.{arith}
-use mathlib.Core.Path.{sym}
 use Rattle.nesting.proofs.Whole.{gathered, gathered_length, tree_of, next_of, listed_of}
 use Rattle.nesting.proofs.list_all.Goals as goal
 
-pub gather-requires : goal.gather-requires
-gather-requires c = (
-  c.requires.labelled.room,
-  (
-    omega (arith, c.requires.labelled.few_points),
-    omega (arith, c.requires.k_value, c.requires.k_bound.0),
-  ),
-)
-
-pub slice_bounds-inner-end : goal.slice_bounds-inner-end
-slice_bounds-inner-end c = omega (arith, c.requires.k_bound.0, c.gather.auto.inner)
-
-pub slice_bounds-list_hole-end : goal.slice_bounds-list_hole-end
-slice_bounds-list_hole-end c = sym (gathered_length _ _ _ _ c.requires.k_value c.gather.ensures)
-
-pub list_hole-requires : goal.list_hole-requires
-list_hole-requires c =
+pub list_region-requires : goal.list_region-requires
+list_region-requires c =
     let q = c.requires in
     let holds = gathered _ _ _ _ q.k_value c.gather.ensures in
     let long = gathered_length _ _ _ _ q.k_value c.gather.ensures in
@@ -37,4 +21,4 @@ returns c =
     let holds = gathered _ _ _ _ q.k_value c.gather.ensures in
     let long = gathered_length _ _ _ _ q.k_value c.gather.ensures in
     listed_of _ _ _ _ q.labelled holds (omega (arith, long, q.k_bound.0)) c.args.list.now _
-    (omega (arith, long, q.k_bound.1)) c.list_hole.ensures.list_after
+    (omega (arith, long, q.k_bound.1)) c.list_region.ensures.list_after

@@ -10,6 +10,3 @@ use Rattle.overlap.proofs.offset_shared.Given as goal
 abbrev pub invariant-loop-r : goal.invariant-loop-r
 invariant-loop-r l =
     (l.r ≤ l.first.h) × (any (line_shared l.first l.words l.second l.others) l.r ≡ false)
-
-abbrev pub decreases-loop-r : goal.decreases-loop-r
-decreases-loop-r l = l.first.h - l.r

@@ -9,6 +9,3 @@ use Rattle.overlap.proofs.row_shared.Given as goal
 
 abbrev pub invariant-loop-c : goal.invariant-loop-c
 invariant-loop-c l = (l.c ≤ l.first.w) × (any (cell_shared l.word l.beside l.first l.second) l.c ≡ false)
-
-abbrev pub decreases-loop-c : goal.decreases-loop-c
-decreases-loop-c l = l.first.w - l.c

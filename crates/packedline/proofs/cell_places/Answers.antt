@@ -2,7 +2,7 @@ use lib.Pow.{pow_pos}
 use Rattle.packedline.proofs.Runs.{CellSo, cell_none, cell_more, cell_done, room}
 use lib.ListN.{set}
 use Prim.Native.Nat.{◌+◌, ◌-◌, ◌<◌}
-use mathlib.Core.Path.{sym, subst, ◌∙◌}
+use mathlib.Core.Path.{sym, subst}
 use native.Mathlib.Omega.{arith}
 use Rattle.packedline.proofs.cell_places.Goals as goal
 
@@ -20,9 +20,6 @@ bounds-at-count c =
     (room a.grows a.word a.o l.m l.count l.at l.invariant c.first_cell-c.result
     f.0 f.1.0 f.1.1.0)
 
-pub overflow_sub-m : goal.overflow_sub-m
-overflow_sub-m c = omega (arith, c.cell_bit-m.ensures, c.first_cell-c.ensures.1.0)
-
 pub loop-m-smaller : goal.loop-m-smaller
 loop-m-smaller c =
     let f = c.first_cell-c.ensures in
@@ -38,9 +35,6 @@ loop-m-preserved c =
     (cell_more a.grows a.word a.o l.m l.count l.at l.invariant
     c.first_cell-c.result f.0 f.1.0 f.1.1.0 c.cell_place.result
     c.cell_place.ensures.0)
-
-pub shape_of-at : goal.shape_of-at
-shape_of-at c = c.loop-m.invariant.0 ∙ sym c.requires.1
 
 pub returns : goal.returns
 returns c =

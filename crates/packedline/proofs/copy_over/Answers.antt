@@ -20,9 +20,6 @@ loop-i-preserved c =
           (omega arith) l.invariant.2 c.faced.ensures,
     )
 
-pub shape_of-b : goal.shape_of-b
-shape_of-b c = c.loop-i.invariant.1
-
 pub returns : goal.returns
 returns c =
     let a = c.args in

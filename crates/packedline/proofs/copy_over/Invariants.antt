@@ -3,7 +3,7 @@
 use Rattle.packedline.specs.Steps.Padded.{faced_byte}
 use Rattle.blocks.specs.Steps.Laid.{laid}
 use lib.ListN.{length, get_or}
-use Prim.Native.Nat.{◌-◌, ◌≤◌}
+use Prim.Native.Nat.{◌≤◌}
 use mathlib.Core.Path.{◌≡◌}
 use Rattle.packedline.proofs.copy_over.Given as goal
 
@@ -11,6 +11,3 @@ abbrev pub invariant-loop-i : goal.invariant-loop-i
 invariant-loop-i l =
     (l.i ≤ length l.s) × (length l.b ≡ length l.initial.b)
     × (l.b ≡ laid l.at l.i (λ i. faced_byte l.over (get_or l.s i 0)) l.initial.b)
-
-abbrev pub decreases-loop-i : goal.decreases-loop-i
-decreases-loop-i l = length l.s - l.i

@@ -1,13 +1,8 @@
 -- The kit's count of leading zeros: the word lies between the two powers of 2 around its highest digit.
 -- It has a digit, so that the count is below 64.
-use lib.Count.{leading_le}
 use Rattle.packedline.proofs.Words.{first_is}
 use mathlib.Core.Path.{refl}
-use native.Mathlib.Omega.{arith}
 use Rattle.packedline.proofs.first_cell.Goals as goal
-
-pub overflow_cast-result : goal.overflow_cast-result
-overflow_cast-result c = record { fits = omega (arith, leading_le 64 c.args.word) }
 
 pub returns : goal.returns
 returns c =

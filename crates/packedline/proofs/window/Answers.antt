@@ -3,9 +3,6 @@
 use borrow.Author.Tests.{le-leb, lt-leb}
 use Rattle.packedline.proofs.window.Goals as goal
 
-pub returns-then-wide-le4 : goal.returns-then-wide-le4
-returns-then-wide-le4 c = simp (le-leb c.args.wide 4 c.if-wide-le4.true)
-
 pub returns-then-wide-le16 : goal.returns-then-wide-le16
 returns-then-wide-le16 c =
     simp (

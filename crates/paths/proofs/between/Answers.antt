@@ -7,8 +7,8 @@ pub returns : goal.returns
 unfolding between_of
 returns c =
     λ i. record {
-      left = c.lesser.ensures i;
-      right = c.greater.ensures i;
-      top = c.lesser-2.ensures i;
-      bottom = c.greater-2.ensures i;
+      left = c.min.ensures i;
+      right = c.max.ensures i;
+      top = c.min-2.ensures i;
+      bottom = c.max-2.ensures i;
     }

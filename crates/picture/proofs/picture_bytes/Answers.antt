@@ -21,12 +21,3 @@ overflow_mul-result c =
       ap (λ n. a.h * n) c.row_bytes.ensures,
       picture_few a.depth a.w a.h s.few_pings s.few_bins,
     )
-
-pub returns-then-sized : goal.returns-then-sized
-returns-then-sized c =
-    let a = c.args in
-    ap (λ n. a.h * n) c.row_bytes.ensures
-    ∙ simp (sym c.sized.ensures ∙ c.if-sized.true)
-
-pub returns-else-sized : goal.returns-else-sized
-returns-else-sized c = simp (sym c.sized.ensures ∙ c.if-sized.false)

@@ -7,7 +7,7 @@ use Rattle.picture.specs.declared.Depth.{Depth}
 use Rattle.digits.specs.Decimal.{decimal}
 use Rattle.digits.specs.Put.{put}
 use Rattle.digits.proofs.Pieces.{Left, none_put, piece_put, piece_fits, all_put}
-use lib.ListN.{length, take}
+use lib.ListN.{length}
 use mathlib.Core.List.{List, [], ◌∷◌, ◌++◌, flatten}
 use mathlib.Core.Path.{◌≡◌, sym, ap, ◌∙◌, subst}
 use Prim.Native.Nat.{ℕ, ◌+◌, ◌≤◌}

@@ -12,6 +12,3 @@ abbrev pub invariant-loop-r : goal.invariant-loop-r
 invariant-loop-r l =
     (l.r ≤ most_link_cells)
     × (l.rows ≡ firsts (λ r. get_or l.cells r 0) l.r ++ replicate (most_link_cells - l.r) 0)
-
-abbrev pub decreases-loop-r : goal.decreases-loop-r
-decreases-loop-r l = most_link_cells - l.r

@@ -1,5 +1,5 @@
--- Invariant: the words before r are those of their rows, and those from r on are 0 yet; h - r falls.
--- Row r lies within the bytes, because r is below h (`room`).
+-- Invariant: the words before r are those of their rows, and those from r on are 0 yet.
+-- Row r lies within the bytes, because r is below h.
 use Rattle.element.specs.Steps.Words.{row_word}
 use Rattle.element.specs.Descriptor.{most_cells}
 use Rattle.basics.specs.Lists.{firsts}
@@ -12,6 +12,3 @@ use Rattle.reader.proofs.words_of.Given as goal
 abbrev pub invariant-loop-r : goal.invariant-loop-r
 invariant-loop-r l =
     (l.r ≤ l.h) × (l.rows ≡ firsts (row_word l.d l.n) l.r ++ replicate (most_cells - l.r) 0)
-
-abbrev pub decreases-loop-r : goal.decreases-loop-r
-decreases-loop-r l = l.h - l.r

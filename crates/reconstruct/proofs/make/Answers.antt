@@ -1,24 +1,12 @@
 -- The copied marker is what growth begins with; what it leaves is what the marker grows to, `made_from`.
 -- The marker lies within the mask, since no point of it is outside.
-use Rattle.reconstruct.proofs.Made.{made_from, picture_room}
+use Rattle.reconstruct.proofs.Made.{made_from}
 use Rattle.grown.proofs.Marker.{outside_none}
 use Rattle.picture.specs.declared.Depth.TheVariants.{OneBit}
 use Rattle.picture.specs.Frame.{frame}
 use Rattle.picture.specs.Points.{value_at}
-use lib.ListN.{length}
-use mathlib.Core.Path.{refl}
 use native.Mathlib.Omega.{arith}
 use Rattle.reconstruct.proofs.make.Goals as goal
-
-pub grow-requires : goal.grow-requires
-grow-requires c =
-    let a = c.args in
-    let n = c.row_bytes-n.ensures in
-    let u = c.spare_bits-u.ensures in record {
-      room = picture_room _ _ _ a.w a.h (length a.mask.now) _ n u refl c.requires.holds_2;
-      room_2 = picture_room _ _ _ a.w a.h (length a.target.now) _ n u
-          c.copy_picture.auto.t c.requires.holds_3;
-    }
 
 pub returns : goal.returns
 returns c =

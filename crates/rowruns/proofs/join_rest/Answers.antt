@@ -21,9 +21,6 @@ loop-m-preserved c =
           l.invariant.2 e,
     )
 
-pub shape_of-t : goal.shape_of-t
-shape_of-t c = c.loop-m.invariant.1
-
 pub returns : goal.returns
 returns c =
     let a = c.args in

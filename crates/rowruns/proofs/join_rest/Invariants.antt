@@ -10,6 +10,3 @@ abbrev pub invariant-loop-m : goal.invariant-loop-m
 invariant-loop-m l =
     (l.m ≤ l.n - l.c) × (length l.t ≡ length l.initial.t)
     × (l.t ≡ piece_of l.grows (start_of l.grows l.n l.c l.m) l.s l.m l.initial.t)
-
-abbrev pub decreases-loop-m : goal.decreases-loop-m
-decreases-loop-m l = l.n - l.c - l.m

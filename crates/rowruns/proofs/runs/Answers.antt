@@ -21,7 +21,7 @@ loop-a-preserved c =
     let a = c.args in
     let p = c.requires in
     let l = c.loop-a in
-    let d = c.lesser-d.ensures in
+    let d = c.min-d.ensures in
     let e = c.join_rows.ensures in (
       search rules,
       omega (arith, d, c.loop-a-test.true),
@@ -30,9 +30,6 @@ loop-a-preserved c =
           (λ i. search rules) p.long l.a _ l.t _ l.invariant.0
           (omega (arith, d)) l.invariant.3 e (λ i. omega (arith, c.type_inv.t i)),
     )
-
-pub shape_of-t : goal.shape_of-t
-shape_of-t c = c.loop-a.invariant.2
 
 pub returns : goal.returns
 returns c =

@@ -9,4 +9,4 @@ returns-then-at-back c = let a = c.args in place_low a.n a.p a.plus a.minus c.if
 pub returns : goal.returns
 returns c =
     let a = c.args in
-    place_other a.n a.p a.plus a.minus _ c.if-at-back.false c.lesser.ensures
+    place_other a.n a.p a.plus a.minus _ c.if-at-back.false c.min.ensures

@@ -7,7 +7,7 @@ use Rattle.settle.proofs.byte_before.Goals as goal
 
 pub returns-then-j-gt0 : goal.returns-then-j-gt0
 unfolding byte_before
-returns-then-j-gt0 c = c.wide.ensures.0 ∙ simp (lt-ltb _ _ c.if-j-gt0.true)
+returns-then-j-gt0 c = c.from.ensures ∙ simp (lt-ltb _ _ c.if-j-gt0.true)
 
 pub returns-else-j-gt0 : goal.returns-else-j-gt0
 unfolding byte_before

@@ -7,7 +7,7 @@ use Rattle.settle.proofs.byte_from.Goals as goal
 
 pub returns-then-j-n : goal.returns-then-j-n
 unfolding byte_from
-returns-then-j-n c = c.wide.ensures.0 ∙ simp (lt-ltb _ _ c.if-j-n.true)
+returns-then-j-n c = c.from.ensures ∙ simp (lt-ltb _ _ c.if-j-n.true)
 
 pub returns-else-j-n : goal.returns-else-j-n
 unfolding byte_from

@@ -7,15 +7,15 @@ pub returns : goal.returns
 returns c =
     let a = c.args in
     eight_is a.s.now a.at _ _ _ _ _ _ _ _ _ _ _ _ _ _ _ (
-      c.wide.ensures.0,
-      c.wide-2.ensures.0,
-      c.wide-3.ensures.0,
-      c.wide-4.ensures.0,
+      c.from.ensures,
+      c.from-2.ensures,
+      c.from-3.ensures,
+      c.from-4.ensures,
     ) (
-      c.wide-5.ensures.0,
-      c.wide-6.ensures.0,
-      c.wide-7.ensures.0,
-      c.wide-8.ensures.0,
+      c.from-5.ensures,
+      c.from-6.ensures,
+      c.from-7.ensures,
+      c.from-8.ensures,
     )
     (c.pair-a.ensures.0, c.pair-b.ensures.0, c.pair-c.ensures.0, c.pair-d.ensures.0)
     (c.pair.ensures.0, c.pair-2.ensures.0, c.pair-3.ensures.0)

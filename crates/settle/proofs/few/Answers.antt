@@ -22,7 +22,7 @@ loop-i-preserved c =
       search rules,
       digits_more 8 (byte c.before.before.before.before.before.before)
           (bytes (goal.at.loop-i-preserved c).After-shared_slice_known-1) 64 l.i
-          l.v _ (omega arith) l.invariant.1 c.wide.ensures.0,
+          l.v _ (omega arith) l.invariant.1 c.from.ensures,
     )
 
 pub returns : goal.returns

@@ -7,6 +7,3 @@ use Rattle.settlecell.proofs.flood.Given as goal
 
 abbrev pub invariant-loop-i : goal.invariant-loop-i
 invariant-loop-i l = (l.i ≤ 64) × (l.v ≡ flooded l.m l.o l.c l.i)
-
-abbrev pub decreases-loop-i : goal.decreases-loop-i
-decreases-loop-i l = 64 - l.i

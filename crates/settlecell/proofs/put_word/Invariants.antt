@@ -12,6 +12,3 @@ abbrev pub invariant-loop-i : goal.invariant-loop-i
 invariant-loop-i l =
     (l.i ≤ l.k) × (length l.t ≡ length l.initial.t)
     × (l.t ≡ firsts (byte_of l.v l.k) l.i ++ drop l.i l.initial.t)
-
-abbrev pub decreases-loop-i : goal.decreases-loop-i
-decreases-loop-i l = l.k - l.i

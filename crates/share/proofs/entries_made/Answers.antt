@@ -1,28 +1,35 @@
-use mathlib.Core.Path.{sym, ◌∙◌}
-use native.Mathlib.Omega.{arith}
-use borrow.Author.Rules.{rules}
-use mathlib.Core.Bool.{true}
+-- Each number below the last is asked in turn, until one is not well made.
+-- The numbers that are asked are those of the test over all numbers.
+use Rattle.std.proofs.Common.{rules, ◌≡◌, ◌<◌, ℕ, Bool, true, false, sym, ◌∙◌, ap, refl, arith, length}
+use Rattle.std.proofs.Common.{get_or, MatchBool}
+use Rattle.std.specs.List.{range_with_len, AllWithin, HoldsAt}
+use Rattle.std.proofs.lemmas.Iterator.{cases_from_all, YieldsList-from_range}
+use Rattle.std.proofs.lemmas.List.FromFn.{length-range_with_len, get_or-range_with_len}
+use Rattle.basics.specs.Tests.{all}
+use Rattle.basics.proofs.Tests.{all_of, all_stop}
 use Rattle.share.specs.Share.{entry_made}
-use Rattle.basics.proofs.Tests.{all_none, all_more, all_stop, all_done}
 use Rattle.share.proofs.entries_made.Goals as goal
 
-pub loop-n-init : goal.loop-n-init
-loop-n-init c = (search rules, all_none _)
+-- number k of those that are asked
+asked : (N k : ℕ) → k < N → k ≡ get_or (range_with_len 0 N) k 0
+asked N k l = let e = get_or-range_with_len 0 N k 0 l in omega arith
 
-pub entry_made-requires : goal.entry_made-requires
-entry_made-requires c = record { few = omega arith; below = omega arith; fits = omega arith }
-
-pub loop-n-preserved : goal.loop-n-preserved
-loop-n-preserved c =
-    let l = c.loop-n in
-    (omega arith, all_more _ l.n l.invariant.1 (sym c.entry_made.ensures ∙ c.if-entry_made.true))
-
-pub returns-else-entry_made : goal.returns-else-entry_made
-returns-else-entry_made c =
-    let l = c.loop-n in
-    let a = c.args in
-    sym (all_stop _ l.n a.numbers c.loop-n-test.true
-    (sym c.entry_made.ensures ∙ c.if-entry_made.false))
+all_by : (p : ℕ → Bool) (N : ℕ) (r : Bool)
+    → MatchBool r (AllWithin (λ k. p k ≡ true) (range_with_len 0 N) 0 (length (range_with_len 0 N)))
+    ((k : ℕ) × (k < length (range_with_len 0 N)) × HoldsAt (λ k. p k ≡ false) (range_with_len 0 N) k)
+    → r ≡ all p N
+all_by p N true h =
+    let n = length-range_with_len 0 N in
+    sym (all_of p N (λ k l. ap p (asked N k l) ∙ h k 0 (omega arith) (omega arith)))
+all_by p N false h =
+    let n = length-range_with_len 0 N in
+    let l : h.0 < N = omega arith in
+    sym (all_stop p h.0 N l (ap p (asked N h.0 l) ∙ h.2 0))
 
 pub returns : goal.returns
-returns c = sym (all_done _ c.loop-n.n _ (omega arith) c.loop-n.invariant.1)
+returns c = let a = c.args in
+    all_by (entry_made a.numbers a.s.now) a.numbers _
+    (cases_from_all _ _ _ (λ k. entry_made a.numbers a.s.now k ≡ true)
+    (λ k. entry_made a.numbers a.s.now k ≡ false) c.all.ensures.ran
+    (YieldsList-from_range 0 a.numbers a.numbers refl (omega arith))
+    (λ x q k. search rules) (λ x q k. search rules))

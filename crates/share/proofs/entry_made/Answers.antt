@@ -1,21 +1,9 @@
 -- The length first: 0 is well made. Else the bytes of that length are one descriptor to the end.
 -- The part ends within the share, since the lengths' sum does.
-use Rattle.share.proofs.Checks.{entry_none, entry_some, entry_end}
+use Rattle.share.proofs.Checks.{entry_end}
 use Rattle.share.proofs.entry_made.Goals as goal
-
-pub returns-then-k-eq0 : goal.returns-then-k-eq0
-returns-then-k-eq0 c =
-    let a = c.args in
-    entry_none a.numbers a.s.now a.n _ c.length_at-k.ensures.0 c.if-k-eq0.true
 
 pub slice_bounds-well_made-end : goal.slice_bounds-well_made-end
 slice_bounds-well_made-end c =
     let a = c.args in
-    entry_end a.numbers a.s.now a.n _ c.length_at-k.ensures.0 _
-    c.total.ensures.0 c.requires
-
-pub returns : goal.returns
-returns c =
-    let a = c.args in
-    entry_some a.numbers a.s.now a.n _ c.length_at-k.ensures.0 _ c.total.ensures.0 c.if-k-eq0.false _
-    c.well_made.ensures
+    entry_end a.numbers a.s.now a.n _ c.length_at-k.ensures.0 _ c.total.ensures.0 c.requires

@@ -1,7 +1,7 @@
 use Prim.Native.Nat.{◌+◌}
-use mathlib.Core.Path.{◌≡◌, ap, ◌∙◌}
+use mathlib.Core.Path.{◌≡◌, sym, ap, ◌∙◌}
 use native.Mathlib.Omega.{arith}
-use lib.ListN.{length-set}
+use lib.ListN.{set, length-set}
 use Rattle.basics.proofs.Lists.{over_none, over_more}
 use Rattle.picture.specs.declared.Depth.TheVariants.{OneBit}
 use Rattle.picture.specs.Frame.{frame}
@@ -41,7 +41,7 @@ pub overflow_sub-counts : goal.overflow_sub-counts
 overflow_sub-counts c =
     let a = c.args in
     let l = c.loop-i in
-    next_fewer a.w a.h a.source.now l.i _ _ c.loop-i-test.true l.invariant.3
+    next_fewer a.w a.h a.source.now l.i _ _ (omega (arith, c.loop-i-test.true)) l.invariant.3
     c.survivors-next.ensures
 
 pub loop-i-preserved : goal.loop-i-preserved
@@ -61,7 +61,7 @@ loop-i-preserved c =
             c.loop-i-test.true,
           ))
           l.invariant.4
-          (count_is a.w a.h a.source.now l.i _ _ c.loop-i-test.true l.invariant.3
+          (count_is a.w a.h a.source.now l.i _ _ (omega (arith, c.loop-i-test.true)) l.invariant.3
           r.ensures),
     )
 
@@ -70,7 +70,8 @@ returns c =
     let a = c.args in
     let l = c.loop-i in
     let e : l.i ≡ 31 = omega (arith, l.invariant.0, c.loop-i-test.false) in
-    counts_all (frame a.w a.h) (value_at OneBit a.source.now a.w) l.i _ a.counts.now e
+    ap (λ i. set l.counts i l.here) (sym e)
+    ∙ counts_all (frame a.w a.h) (value_at OneBit a.source.now a.w) l.i _ a.counts.now e
     (over_more (λ i. count_at (frame a.w a.h) (value_at OneBit a.source.now a.w) (i + 1))
     a.counts.now l.counts l.i _ (omega (
       arith,

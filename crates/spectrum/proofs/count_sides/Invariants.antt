@@ -1,6 +1,6 @@
 -- Invariant: the counts of the first i sides are there, and `here` is what side i + 1 keeps.
--- What falls: the sides left.
-use Prim.Native.Nat.{◌+◌, ◌-◌, ◌≤◌}
+-- No side is counted twice: each takes what the next one keeps.
+use Prim.Native.Nat.{◌+◌, ◌≤◌}
 use mathlib.Core.Path.{◌≡◌}
 use mathlib.Core.List.{◌++◌}
 use lib.ListN.{length, drop}
@@ -18,6 +18,3 @@ invariant-loop-i l =
     × (l.here ≡ defined.survivors (frame l.w l.h) (value_at OneBit l.source l.w) (l.i + 1))
     × (l.counts ≡ firsts (λ i. count_at (frame l.w l.h) (value_at OneBit l.source l.w) (i + 1)) l.i
     ++ drop l.i l.initial.counts)
-
-abbrev pub decreases-loop-i : goal.decreases-loop-i
-decreases-loop-i l = 31 - l.i

@@ -1,13 +1,10 @@
 -- The row is made anew from its copy, as a picture of one row.
 -- The code's element is the run of k cells: `row_run`.
-use mathlib.Core.Path.{sym, ap}
+use mathlib.Core.Path.{ap}
 use native.Mathlib.Omega.{arith}
 use lib.ListN.{length}
 use Rattle.squares.proofs.Rows.{copied, row_run}
 use Rattle.squares.proofs.run_row.Goals as goal
-
-pub slice_bounds-make_row-end : goal.slice_bounds-make_row-end
-slice_bounds-make_row-end c = sym (ap length (copied c.args.t.now _ c.copy_of-s.ensures))
 
 pub make_row-requires : goal.make_row-requires
 make_row-requires c =

@@ -32,15 +32,6 @@ loop-y-init c =
           (value_at OneBit a.t.now a.w)) a.w a.t.now,
     )
 
-pub overflow_mul-a : goal.overflow_mul-a
-overflow_mul-a c = omega (arith, room c)
-
-pub overflow_add-z : goal.overflow_add-z
-overflow_add-z c = omega (arith, room c)
-
-pub slice_bounds-run_row-end : goal.slice_bounds-run_row-end
-slice_bounds-run_row-end c = room c
-
 pub run_row-requires : goal.run_row-requires
 run_row-requires c =
     let p = c.requires in
@@ -66,9 +57,6 @@ loop-y-preserved c =
           (row_made a.grows a.k a.w a.h a.t.now l.t n l.y
           c.row_bytes-n.ensures c.loop-y-test.true l.invariant.2 _ r.ensures),
     )
-
-pub shape_of-t : goal.shape_of-t
-shape_of-t c = c.loop-y.invariant.1
 
 pub returns : goal.returns
 returns c =

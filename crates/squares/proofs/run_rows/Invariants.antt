@@ -1,6 +1,6 @@
 -- Invariant: the first y rows are made, the rest of the buffer is as it was. What falls: the rows left.
 -- A row is made from itself alone, which no turn before has written.
-use Prim.Native.Nat.{◌-◌, ◌≤◌}
+use Prim.Native.Nat.{◌≤◌}
 use mathlib.Core.Path.{◌≡◌}
 use lib.ListN.{length}
 use Rattle.picture.specs.declared.Depth.TheVariants.{OneBit}
@@ -18,6 +18,3 @@ invariant-loop-y l =
     × (l.t ≡ rows_written OneBit
     (swept_by l.grows flat 1 (frame l.w l.h) (rect l.k 1) (value_at OneBit l.initial.t l.w)) l.w
     l.initial.t l.y)
-
-abbrev pub decreases-loop-y : goal.decreases-loop-y
-decreases-loop-y l = l.h - l.y

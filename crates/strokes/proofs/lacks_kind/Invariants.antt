@@ -10,6 +10,3 @@ use Rattle.strokes.proofs.lacks_kind.Given as goal
 
 abbrev pub invariant-loop-r : goal.invariant-loop-r
 invariant-loop-r l = (l.r ≤ l.o.h) × (all (λ r. not (eqb (kind_at l.o l.words r) l.k)) l.r ≡ true)
-
-abbrev pub decreases-loop-r : goal.decreases-loop-r
-decreases-loop-r l = l.o.h - l.r

@@ -6,7 +6,4 @@ use Rattle.takeapart.specs.Walk.{board_at}
 use Rattle.takeapart.proofs.board_at.Given as goal
 
 abbrev pub invariant-loop-i : goal.invariant-loop-i
-invariant-loop-i l = (l.i ≤ l.w.depth) × (l.at ≡ board_at l.initial.at l.w l.i)
-
-abbrev pub decreases-loop-i : goal.decreases-loop-i
-decreases-loop-i l = l.w.depth - l.i
+invariant-loop-i l = (l.i ≤ l.fn.w.depth) × (l.at ≡ board_at l.initial.at l.fn.w l.i)

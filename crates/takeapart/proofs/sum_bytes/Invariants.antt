@@ -11,6 +11,3 @@ use Rattle.takeapart.proofs.sum_bytes.Given as goal
 abbrev pub invariant-loop-n : goal.invariant-loop-n
 invariant-loop-n l =
     (l.n ≤ 60) × (l.bytes ≡ firsts (sum_byte l.w) l.n ++ drop l.n (replicate {A = ℕ} 60 0))
-
-abbrev pub decreases-loop-n : goal.decreases-loop-n
-decreases-loop-n l = 60 - l.n

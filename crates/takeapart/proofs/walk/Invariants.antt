@@ -7,6 +7,3 @@ use Rattle.takeapart.proofs.walk.Given as goal
 
 abbrev pub invariant-loop-n : goal.invariant-loop-n
 invariant-loop-n l = (l.n ≤ 64) × (walk_from l.b unwalked 64 ≡ walk_from l.b l.w (64 - l.n))
-
-abbrev pub decreases-loop-n : goal.decreases-loop-n
-decreases-loop-n l = 64 - l.n

@@ -9,9 +9,6 @@ use Rattle.weighblocks.proofs.join_blocks.Goals as goal
 pub loop-k-init : goal.loop-k-init
 loop-k-init c = (search rules, search rules, blocks_none _ _ _ _ _)
 
-pub join_both-d-requires : goal.join_both-d-requires
-join_both-d-requires c = (omega (arith, c.requires.b_len.0), c.requires.b_len.1)
-
 pub loop-k-preserved : goal.loop-k-preserved
 loop-k-preserved c =
     let a = c.args in
@@ -23,9 +20,6 @@ loop-k-preserved c =
           p.new.t l.k (omega arith) l.invariant.2 c.block_at-c.ensures
           c.join_both-d.ensures p.ensures,
     )
-
-pub shape_of-t : goal.shape_of-t
-shape_of-t c = c.loop-k.invariant.1
 
 pub returns : goal.returns
 returns c =

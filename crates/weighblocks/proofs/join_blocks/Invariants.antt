@@ -3,7 +3,7 @@
 use Rattle.weighblocks.proofs.Blocks.{row_at}
 use Rattle.blocks.specs.Steps.Laid.{laid}
 use lib.ListN.{length}
-use Prim.Native.Nat.{◌-◌, ◌*◌, ◌≤◌}
+use Prim.Native.Nat.{◌*◌, ◌≤◌}
 use mathlib.Core.Path.{◌≡◌}
 use Rattle.weighblocks.proofs.join_blocks.Given as goal
 
@@ -11,6 +11,3 @@ abbrev pub invariant-loop-k : goal.invariant-loop-k
 invariant-loop-k l =
     (l.k ≤ l.n) × (length l.t ≡ length l.initial.t)
     × (l.t ≡ laid 0 (64 * l.k) (row_at l.grows l.b l.rising l.others l.initial.t) l.initial.t)
-
-abbrev pub decreases-loop-k : goal.decreases-loop-k
-decreases-loop-k l = l.n - l.k

@@ -1,6 +1,6 @@
 -- Rows joined with what the cells of an element row find.
 -- A cell is one number: the size of its height, and 256 times its place.
-use Rattle.std.specs.Prelude.{ℕ, ◌+◌, ◌*◌, ◌/◌, ◌%◌, ◌<◌, Bool, true, false, List, get_or, length}
+use Rattle.std.specs.Prelude.{ℕ, ◌+◌, ◌/◌, ◌%◌, ◌<◌, Bool, true, false, List, get_or, length}
 use Rattle.basics.specs.Lists.{firsts}
 use Rattle.morphology.specs.Operations.{fold}
 use Rattle.rows.specs.Steps.Fold.{join_by}

@@ -10,6 +10,3 @@ returns-then-g-eq0 c =
     joined_plain a.grows a.g _ a.by.now _ c.if-g-eq0.true
     (λ i. let b = c.type_inv.by i in omega arith)
     c.join_row.ensures
-
-pub returns : goal.returns
-returns c = c.join_weighed.ensures

@@ -1,5 +1,4 @@
 use borrow.Author.Rules.{rules}
-use native.Mathlib.Omega.{arith}
 use lib.ListN.{length-set}
 use Rattle.rows.specs.Steps.Fold.{join_by}
 use Rattle.basics.proofs.Zip.{zip_none, zip_store, zip_all}
@@ -7,21 +6,6 @@ use Rattle.weighing.proofs.join_row.Goals as goal
 
 pub loop-i-init : goal.loop-i-init
 loop-i-init c = (search rules, search rules, zip_none (join_by c.args.grows) _)
-
-pub bounds-t-i : goal.bounds-t-i
-bounds-t-i c = omega arith
-
-pub bounds-by-i : goal.bounds-by-i
-bounds-by-i c = omega arith
-
-pub bounds-t-i-in-loop-i : goal.bounds-t-i-in-loop-i
-bounds-t-i-in-loop-i c = omega arith
-
-pub overflow_add-i : goal.overflow_add-i
-overflow_add-i c = omega arith
-
-pub loop-i-smaller : goal.loop-i-smaller
-loop-i-smaller c = omega arith
 
 pub loop-i-preserved : goal.loop-i-preserved
 loop-i-preserved c =
@@ -32,9 +16,6 @@ loop-i-preserved c =
       zip_store (join_by a.grows) a.t.now a.by.now l.t l.i
           (search rules) l.invariant.2 c.join.result c.join.ensures,
     )
-
-pub shape_of-t : goal.shape_of-t
-shape_of-t c = c.loop-i.invariant.1
 
 pub returns : goal.returns
 returns c =

@@ -3,7 +3,6 @@ use Rattle.rows.specs.Steps.Ways.{weigh_by}
 use Rattle.rows.specs.Steps.Fold.{join_by}
 use lib.ListN.{length-set}
 use mathlib.Core.Path.{ap, ◌∙◌}
-use native.Mathlib.Omega.{arith}
 use borrow.Author.Rules.{rules}
 use Rattle.weighing.proofs.join_weighed.Goals as goal
 
@@ -11,21 +10,6 @@ pub loop-i-init : goal.loop-i-init
 loop-i-init c =
     let a = c.args in
     (search rules, search rules, zip_none (λ u v. join_by a.grows u (weigh_by a.grows a.g v)) _)
-
-pub bounds-t-i : goal.bounds-t-i
-bounds-t-i c = omega arith
-
-pub bounds-by-i : goal.bounds-by-i
-bounds-by-i c = omega arith
-
-pub bounds-t-i-in-loop-i : goal.bounds-t-i-in-loop-i
-bounds-t-i-in-loop-i c = omega arith
-
-pub overflow_add-i : goal.overflow_add-i
-overflow_add-i c = omega arith
-
-pub loop-i-smaller : goal.loop-i-smaller
-loop-i-smaller c = omega arith
 
 pub loop-i-preserved : goal.loop-i-preserved
 loop-i-preserved c =
@@ -37,9 +21,6 @@ loop-i-preserved c =
           a.by.now l.t l.i (search rules) l.invariant.2 c.join.result
           (c.join.ensures ∙ ap (join_by a.grows _) c.weighed.ensures),
     )
-
-pub shape_of-t : goal.shape_of-t
-shape_of-t c = c.loop-i.invariant.1
 
 pub returns : goal.returns
 returns c =

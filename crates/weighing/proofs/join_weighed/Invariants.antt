@@ -4,7 +4,7 @@ use Rattle.rows.specs.Steps.Ways.{weigh_by}
 use Rattle.rows.specs.Steps.Fold.{join_by}
 use Rattle.basics.specs.Zip.{zip_in}
 use lib.ListN.{length, take}
-use Prim.Native.Nat.{◌≤◌, ◌-◌}
+use Prim.Native.Nat.{◌≤◌}
 use mathlib.Core.Path.{◌≡◌}
 use Rattle.weighing.proofs.join_weighed.Given as goal
 
@@ -12,6 +12,3 @@ abbrev pub invariant-loop-i : goal.invariant-loop-i
 invariant-loop-i l =
     (l.i ≤ length l.by) × (length l.t ≡ length l.initial.t)
     × (l.t ≡ zip_in (λ u v. join_by l.grows u (weigh_by l.grows l.g v)) l.initial.t (take l.i l.by))
-
-abbrev pub decreases-loop-i : goal.decreases-loop-i
-decreases-loop-i l = length l.by - l.i

@@ -2,30 +2,29 @@
 -- Where nothing is refused the picture is admitted and the element is the descriptor's (`judged`),
 -- and apply does the rest.
 use mathlib.Core.Path.{◌≡◌}
-use Rattle.weighted.proofs.Known.{Known, known, answer_is, room_holds, element_ready}
+use Rattle.weighted.proofs.Known.{Known, known, refused_left, room_holds, element_ready}
 use Rattle.weighted.proofs.Known.{small, heights_start, once_left, twice_left}
 use Rattle.apply.proofs.Read.{parts_read}
 use Rattle.element.specs.declared.Element.{Element}
 use Rattle.element.specs.Record.{element_of}
 use Rattle.answer.specs.Answer.{told}
-use Rattle.answer.proofs.Lent.{kept_by}
+use Rattle.answer.proofs.Variants.{err_undone, ok_done}
 use Rattle.rows.specs.Steps.Ways.{grows_of}
 use lib.ListN.{length}
 use Prim.Native.Nat.{◌≤◌, min}
-use mathlib.Core.Path.{sym, ◌∙◌}
 use native.Mathlib.Omega.{arith}
 use Rattle.weighted.proofs.run_twice.Goals as goal
-use Rattle.weighted.proofs.run_twice.Goals.{After-cells_end-at, After-rows_at-words, Then-is_done}
+use Rattle.weighted.proofs.run_twice.Goals.{After-cells_end-at, After-rows_at-words, In_ok-element_refusal}
 
-judged : (c : Then-is_done) → let a = c.args in
+judged : (c : In_ok-element_refusal) → let a = c.args in
     Known a.w a.h a.source.now a.element.now
     (min (length a.target.now) (length a.scratch.now))
-    (told c.element_refusal-no.result)
+    (told c.element_refusal.result)
 judged c = let a = c.args in
     known a.w a.h a.source.now a.element.now _ _ _ _
-    c.lesser-room.ensures
-    c.well_weighted-made.ensures c.element_refusal-no.ensures
-    (sym c.is_done.ensures ∙ c.if-is_done.true)
+    c.min-room.ensures
+    c.well_weighted-made.ensures c.element_refusal.ensures
+    (ok_done _ _ c.in_ok-element_refusal.was)
 
 -- the element, read in its two parts
 found : (c : After-rows_at-words)
@@ -38,17 +37,17 @@ found c = parts_read c.args.element.now _ _
 start_of : (c : After-cells_end-at)
     → c.cells_end-at.result ≤ length c.args.element.now
 start_of c = let q = found (goal.at.After-cells_end-at c).After-rows_at-words in
-    heights_start (judged (goal.at.After-cells_end-at c).Then-is_done) _ q _ c.cells_end-at.ensures
+    heights_start (judged (goal.at.After-cells_end-at c).In_ok-element_refusal) _ q _ c.cells_end-at.ensures
 
 pub outline_at-o-requires : goal.outline_at-o-requires
 outline_at-o-requires c = (judged c).cells
 
 pub rows_at-words-requires : goal.rows_at-words-requires
-rows_at-words-requires c = (judged (goal.at.rows_at-words-requires c).Then-is_done).cells
+rows_at-words-requires c = (judged (goal.at.rows_at-words-requires c).In_ok-element_refusal).cells
 
 pub cells_end-at-requires : goal.cells_end-at-requires
 cells_end-at-requires c =
-    small (judged (goal.at.cells_end-at-requires c).Then-is_done) _
+    small (judged (goal.at.cells_end-at-requires c).In_ok-element_refusal) _
     (found (goal.at.cells_end-at-requires c).After-rows_at-words)
 
 pub slice_bounds-heights-count : goal.slice_bounds-heights-count
@@ -59,7 +58,7 @@ slice_bounds-heights-start c = start_of c
 
 pub weighted_twice-requires : goal.weighted_twice-requires
 weighted_twice-requires c =
-    let k = judged (goal.at.weighted_twice-requires c).Then-is_done in
+    let k = judged (goal.at.weighted_twice-requires c).In_ok-element_refusal in
     let q = found (goal.at.weighted_twice-requires c).After-rows_at-words in
     record {
       ready = element_ready k _ q;
@@ -67,31 +66,28 @@ weighted_twice-requires c =
       holds_2 = room_holds k _ (omega arith);
     }
 
-pub returns-then-is_done : goal.returns-then-is_done
-returns-then-is_done c =
-    let a = c.args in
-    let k = judged (goal.at.returns-then-is_done c).Then-is_done in
-    let q = found (goal.at.returns-then-is_done c).After-rows_at-words in
-    let n = c.cells_end-at.ensures in
-    let g = c.is_growing-grows.ensures in
-    record {
-      answer = k.given;
-      bytes = twice_left k _ q _ n (λ i. let l = c.type_inv.element i in omega arith)
-          a.target.now _ _ (grows_of a.first) g c.weighted_twice.ensures.bytes;
-      middle = once_left k _ q _ n (λ i. let l = c.type_inv.element i in omega arith)
-          a.scratch.now _ _ (grows_of a.first) g c.weighted_twice.ensures.middle;
-    }
+pub returns-in_err-element_refusal-clause-bytes : goal.returns-in_err-element_refusal-clause-bytes
+returns-in_err-element_refusal-clause-bytes c = let a = c.args in
+    refused_left a.w a.h a.source.now a.element.now _ _ _ _ c.min-room.ensures
+    c.well_weighted-made.ensures c.element_refusal.ensures (err_undone _ _ c.in_err-element_refusal.was)
+    a.target.now _
 
-pub returns : goal.returns
-returns c =
-    let a = c.args in
-    let e = answer_is a.w a.h a.source.now a.element.now _
-    (min (length a.target.now) (length a.scratch.now)) _ _
-    c.lesser-room.ensures
-    c.well_weighted-made.ensures c.element_refusal-no.ensures in
-    let q = sym c.is_done.ensures ∙ c.if-is_done.false in
-    record {
-      answer = e;
-      bytes = kept_by a.target.now _ _ _ e q;
-      middle = kept_by a.scratch.now _ _ _ e q;
-    }
+pub returns-in_err-element_refusal-clause-middle : goal.returns-in_err-element_refusal-clause-middle
+returns-in_err-element_refusal-clause-middle c = let a = c.args in
+    refused_left a.w a.h a.source.now a.element.now _ _ _ _ c.min-room.ensures
+    c.well_weighted-made.ensures c.element_refusal.ensures (err_undone _ _ c.in_err-element_refusal.was)
+    a.scratch.now _
+
+pub returns-clause-bytes : goal.returns-clause-bytes
+returns-clause-bytes c = let a = c.args in
+    twice_left (judged (goal.at.returns-clause-bytes c).In_ok-element_refusal) _
+    (found (goal.at.returns-clause-bytes c).After-rows_at-words) _ c.cells_end-at.ensures
+    (λ i. let l = c.type_inv.element i in omega arith)
+    a.target.now _ _ (grows_of a.first) c.is_growing-grows.ensures c.weighted_twice.ensures.bytes
+
+pub returns-clause-middle : goal.returns-clause-middle
+returns-clause-middle c = let a = c.args in
+    once_left (judged (goal.at.returns-clause-middle c).In_ok-element_refusal) _
+    (found (goal.at.returns-clause-middle c).After-rows_at-words) _ c.cells_end-at.ensures
+    (λ i. let l = c.type_inv.element i in omega arith)
+    a.scratch.now _ _ (grows_of a.first) c.is_growing-grows.ensures c.weighted_twice.ensures.middle

@@ -31,9 +31,6 @@ loop-k-preserved c =
           p.ensures,
     )
 
-pub shape_of-b : goal.shape_of-b
-shape_of-b c = c.loop-k.invariant.1
-
 pub returns : goal.returns
 returns c =
     let a = c.args in

@@ -11,10 +11,10 @@ pub returns-then-m-le4 : goal.returns-then-m-le4
 returns-then-m-le4 c =
     let a = c.args in
     windows_4 a.grows a.n a.m a.b.now _ c.if-m-le1.false
-    c.if-m-le4.true c.widen1.ensures
+    c.if-m-le4.true c.widen.ensures
 
 pub returns : goal.returns
 returns c =
     let a = c.args in windows_16 a.grows a.n a.m a.b.now _ _ (omega arith) (omega arith)
-    c.widen1.ensures
-    c.widen4.ensures
+    c.widen.ensures
+    c.widen-2.ensures

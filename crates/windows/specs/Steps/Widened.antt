@@ -17,6 +17,10 @@ widen4_at grows l i =
     (get_or l (i + 1) 0))
     (eight_from l (i + 1) 4)
 
+-- the one, or, again, the other
+abbrev pub widen_by : Bool → Bool → List ℕ → ℕ → ℕ
+widen_by grows again b i = cond again (widen4_at grows b i) (widen1_at grows b i)
+
 -- in the first n blocks, each byte by what W makes of the list from there on
 unfoldable pub widened_by : (List ℕ → ℕ → ℕ) → ℕ → List ℕ → List ℕ
 widened_by W n b = laid 0 (64 * n) (W b) b

@@ -2,12 +2,8 @@
 -- The shift is exact: `and_mask`.
 use Rattle.words.specs.Steps.Words.{byte_of}
 use lib.Bits.{and_mask}
-use native.Mathlib.Omega.{arith}
 use Prim.Native.Nat.{◌-◌, ◌*◌, ◌/◌, ◌^◌}
 use Rattle.words.proofs.byte_of.Goals as goal
-
-pub overflow_cast-result : goal.overflow_cast-result
-overflow_cast-result c = omega (arith, and_mask (c.args.v / 2 ^ (56 - 8 * c.args.i)) 8)
 
 pub returns : goal.returns
 unfolding byte_of

@@ -23,9 +23,6 @@ loop-i-preserved c =
       ),
     )
 
-pub shape_of-t : goal.shape_of-t
-shape_of-t c = c.loop-i.invariant.1.0
-
 pub returns : goal.returns
 returns c =
     let l = c.loop-i in

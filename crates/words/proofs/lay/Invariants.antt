@@ -11,6 +11,3 @@ abbrev pub invariant-loop-i : goal.invariant-loop-i
 invariant-loop-i l =
     (l.i ≤ l.end - l.from)
     × ((length l.t ≡ length l.initial.t) × (l.t ≡ laid l.from l.i (byte_of l.v) l.initial.t))
-
-abbrev pub decreases-loop-i : goal.decreases-loop-i
-decreases-loop-i l = l.end - l.from - l.i

@@ -1,12 +1,9 @@
 -- By cases: no column left, no cell left, or the first cell of the word moved on by c.
 -- The digits of the moved word are those of the word: proofs/Next.
-use Rattle.words.proofs.Next.{next_past, next_none, next_found}
+use Rattle.words.proofs.Next.{next_none, next_found}
 use mathlib.Core.Path.{refl}
 use native.Mathlib.Omega.{arith}
 use Rattle.words.proofs.next_cell.Goals as goal
-
-pub returns-then-c-ge64 : goal.returns-then-c-ge64
-returns-then-c-ge64 c = next_past c.args.word c.args.c c.requires c.if-c-ge64.true
 
 pub returns-then-m-eq0 : goal.returns-then-m-eq0
 returns-then-m-eq0 c =

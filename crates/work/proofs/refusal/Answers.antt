@@ -1,5 +1,5 @@
 -- Stands on judge_ech and most_len: the element's answer, the file's, the room for the text, in this order.
--- Each answer is that of the whole list where it is the first that is no Done.
+-- Each answer is that of the whole list where it is the first that refuses.
 use Rattle.work.proofs.Refusals.{refused_shape, refused_file, refused_room}
 use Rattle.work.proofs.Refusals.{nothing_refused, longest_own}
 use Rattle.work.specs.Work.{longest}
@@ -7,49 +7,47 @@ use Rattle.ech.proofs.Reading.{target_held}
 use Rattle.answer.specs.Answer.{told, is_done}
 use mathlib.Core.Bool.{true}
 use mathlib.Core.List.{[]}
-use mathlib.Core.Path.{◌≡◌, sym, ◌∙◌}
+use mathlib.Core.Path.{◌≡◌, ◌∙◌}
+use Rattle.answer.proofs.Variants.{err_undone, handed_on, ok_done}
+use Rattle.std.proofs.lemmas.Result.{err_from_is_err_and}
 use Rattle.work.proofs.refusal.Goals as goal
-use Rattle.work.proofs.refusal.Goals.{After-most_len, Else-not-is_done, Else-not-is_done-2}
+use Rattle.work.proofs.refusal.Goals.{After-most_len, In_ok-shape}
 
-shape_done : (c : Else-not-is_done) → is_done (told c.args.shape) ≡ true
-shape_done c = sym c.is_done.ensures ∙ c.if-not-is_done.false
+shape_done : (c : In_ok-shape) → is_done (told c.args.shape) ≡ true
+shape_done c = ok_done _ _ c.in_ok-shape.was
 
-file_done : (c : Else-not-is_done-2) → is_done (told c.judge_ech-head.result.answer) ≡ true
-file_done c = sym c.is_done-2.ensures ∙ c.if-not-is_done-2.false
+long : (c : After-most_len) → c.most_len.result ≡ longest c.args.file.now
+long c = longest_own _ _ _ c.in_ok-head.ensures _ _ c.depth_of-depth.ensures c.most_len.ensures
 
-long : (c : After-most_len)
-    → c.most_len.result
-    ≡ longest c.args.file.now
-long c = longest_own _ _ _ c.judge_ech-head.ensures
-    (file_done (goal.at.After-most_len c).Else-not-is_done-2) _ _ c.depth_of-depth.ensures c.most_len.ensures
+pub returns-in_err-shape : goal.returns-in_err-shape
+returns-in_err-shape c =
+    let w = c.in_err-shape.was in
+    handed_on _ _ _ w (err_from_is_err_and c.from_residual.result c.from_residual.ensures.1)
+    ∙ refused_shape _ _ _ _ (err_undone _ _ w)
 
-pub returns-then-not-is_done : goal.returns-then-not-is_done
-returns-then-not-is_done c =
-    refused_shape _ _ _ _ (sym c.is_done.ensures ∙ c.if-not-is_done.true)
-
-pub returns-then-not-is_done-2 : goal.returns-then-not-is_done-2
-returns-then-not-is_done-2 c =
-    refused_file _ _ _ _ (shape_done (goal.at.returns-then-not-is_done-2 c).Else-not-is_done) _
-    c.judge_ech-head.ensures.answer
-    (sym c.is_done-2.ensures ∙ c.if-not-is_done-2.true)
+pub returns-in_err-head : goal.returns-in_err-head
+returns-in_err-head c =
+    let w = c.in_err-head.was in
+    handed_on _ _ _ w
+    (err_from_is_err_and c.from_residual-in_err-head.result c.from_residual-in_err-head.ensures.1)
+    ∙ refused_file _ _ _ _ (shape_done (goal.at.returns-in_err-head c).In_ok-shape) _
+    c.judge_ech.ensures.answer (err_undone _ _ w)
 
 pub most_len-requires : goal.most_len-requires
 most_len-requires c =
-    let p = target_held _ [] _ _ c.judge_ech-head.ensures
-    (file_done (goal.at.most_len-requires c).Else-not-is_done-2) _ c.depth_of-depth.ensures in
+    let p = target_held _ [] _ _ c.in_ok-head.ensures _ c.depth_of-depth.ensures in
     (p.few_pings, p.few_bins)
 
 pub returns-then-n-most_len : goal.returns-then-n-most_len
+unfolding told
 returns-then-n-most_len c =
-    refused_room _ _ _ _ (shape_done (goal.at.returns-then-n-most_len c).Else-not-is_done) _
-    c.judge_ech-head.ensures.answer
-    (file_done (goal.at.returns-then-n-most_len c).Else-not-is_done-2) _
-    (long (goal.at.returns-then-n-most_len c).After-most_len)
-    c.if-n-most_len.true
+    let p = goal.at.returns-then-n-most_len c in
+    refused_room _ _ _ _ (shape_done p.In_ok-shape) _ c.judge_ech.ensures.answer
+    (ok_done _ _ c.in_ok-head.was) _ (long p.After-most_len) c.if-n-most_len.true
 
 pub returns : goal.returns
+unfolding told
 returns c =
-    nothing_refused _ _ _ _ (shape_done (goal.at.returns c).Else-not-is_done) _
-    c.judge_ech-head.ensures.answer
-    (file_done (goal.at.returns c).Else-not-is_done-2) _ (long (goal.at.returns c).After-most_len)
-    c.if-n-most_len.false
+    let p = goal.at.returns c in
+    nothing_refused _ _ _ _ (shape_done p.In_ok-shape) _ c.judge_ech.ensures.answer
+    (ok_done _ _ c.in_ok-head.was) _ (long p.After-most_len) c.if-n-most_len.false

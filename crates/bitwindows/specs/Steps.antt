@@ -1,2 +1,0 @@
--- How the work goes: windows of points, packed.
-pub mod Widened

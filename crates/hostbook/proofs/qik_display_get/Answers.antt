@@ -1,6 +1,0 @@
--- It passes on what `get` returns, for the display.
--- That is what is promised here.
-use Rattle.hostbook.proofs.qik_display_get.Goals as goal
-
-pub returns : goal.returns
-returns c = c.get.ensures

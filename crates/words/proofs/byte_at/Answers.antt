@@ -1,8 +1,0 @@
--- Past the end the list has its default, 0.
--- Nothing falls: there is no loop.
-use lib.ListN.{get_or-eq_default}
-use mathlib.Core.Path.{sym}
-use Rattle.words.proofs.byte_at.Goals as goal
-
-pub returns-else-at-s : goal.returns-else-at-s
-returns-else-at-s c = sym (get_or-eq_default c.args.s.now 0 c.if-at-s.false)
