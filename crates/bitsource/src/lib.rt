@@ -14,7 +14,7 @@ ghost use Rattle.rows.specs.Steps.Ready.{Ready};
 ghost use Rattle.rows.specs.Steps.Ways.{swept_by};
 ghost use Rattle.bysource.specs.Steps.Filled.{RoomsOf, RoomsFit};
 ghost use Rattle.bitrooms.specs.Steps.Points.{bits_way, bits_join};
-ghost use Rattle.bitparts.specs.Steps.Filled.{padded_in};
+ghost use Rattle.bitparts.specs.Steps.Filled.{padded_in, cells_in, runs_in, bits_filled};
 ghost use Rattle.bitparts.specs.Steps.Points.{bit_rooms, bits_far, bits_scan, windows_of};
 
 use blocks::BLOCK;
@@ -34,7 +34,7 @@ const ROOMS: usize = 308;
 const WINDOWS: usize = 152;
 
 // Bytes of eight points each, the places in points.
-struct Bits;
+pub struct Bits;
 
 impl Lane for Bits {
     ghost way = { bits_way };
@@ -68,7 +68,8 @@ fn pad(grows: bool, b: &mut [u8], at: usize, s: &[u8], w: usize)
 // Single points in the first room, windows of two in the second.
 fn fill_cells(grows: bool, b: &mut [u8], s: &[u8], w: usize)
     requires fit { RoomsFit Depth.OneBit grows bit_rooms b.old (length s.now) w }
-    ensures { RoomsOf Depth.OneBit grows 0 s.now w (bits_far w) b.new }
+    ensures shown { RoomsOf Depth.OneBit grows 0 s.now w (bits_far w) b.new }
+    ensures bytes { b.new ≡ cells_in grows s.now w }
 {
     pad(grows, b, SIDE, s, w);
     rooms::widen::<Bits>(grows, b, 0, ROOM, windows(w), 1, 1, 1);
@@ -77,7 +78,8 @@ fn fill_cells(grows: bool, b: &mut [u8], s: &[u8], w: usize)
 // Windows of 4 in the first room, windows of 16 in the second.
 fn fill_runs(grows: bool, b: &mut [u8], s: &[u8], w: usize)
     requires fit { RoomsFit Depth.OneBit grows bit_rooms b.old (length s.now) w }
-    ensures { RoomsOf Depth.OneBit grows 1 s.now w (bits_far w) b.new }
+    ensures shown { RoomsOf Depth.OneBit grows 1 s.now w (bits_far w) b.new }
+    ensures bytes { b.new ≡ runs_in grows s.now w }
 {
     let n = windows(w);
     pad(grows, b, ROOM + SIDE, s, w);
@@ -91,6 +93,8 @@ impl Scan for Bits {
     ghost rooms = { bit_rooms };
 
     ghost far = { bits_far };
+
+    ghost filled = { bits_filled };
 
     ghost scans = { bits_scan };
 

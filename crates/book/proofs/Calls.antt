@@ -8,8 +8,8 @@ use native.Mathlib.Nat.{add-sub_cancel_left}
 use borrow.Author.Tests.{leb-true, lt-ltb, le-ltb, not-false}
 use borrow.Rule.Slice.PartMut.{mid_of, put_mid}
 use lib.Dec.{leb}
-use lib.ListN.{length, take, drop, replicate, length-append, length-drop}
-use lib.Seq.{take-take, drop-drop}
+use lib.ListN.{length, take, drop, replicate}
+use lib.Seq.{take-take, drop_at, drop-drop, length-take-le}
 use Rattle.std.proofs.lemmas.List.{drop-take}
 use Rattle.basics.proofs.SliceParts.{length_mid}
 use Rattle.basics.proofs.Tests.{both}
@@ -243,24 +243,19 @@ pub start_answer_lem : (b : List ℕ) → book_long ≤ length b → plain 0 ≡
 unfolding start_answer
 start_answer_lem b h = ap (λ (t : Bool). cond t (plain 8) (plain 0)) (sym (le-ltb (length b) book_long h))
 
--- the mark over the first bytes, then the shares' bytes cleared
-marked_then : (b z : List ℕ) (n : ℕ) → put_mid 4 n ((69 ∷ 66 ∷ 75 ∷ version ∷ []) ++ drop 4 b) z
-    ≡ (69 ∷ 66 ∷ 75 ∷ version ∷ []) ++ (z ++ drop (4 + n) b)
-marked_then b z n = ap (λ (l : List ℕ). (69 ∷ 66 ∷ 75 ∷ version ∷ []) ++ (z ++ l)) (drop-drop n 4 b)
+-- the shares' bytes cleared as one part, then the mark over the first bytes
+head_gone : (b y : List ℕ) (n : ℕ) → 4 ≤ length b → drop 4 (put_mid 4 n b y) ≡ y ++ drop (4 + n) b
+head_gone b y n h = drop_at (take 4 b) _ 4 (length-take-le 4 b h) ∙ ap (λ l. y ++ l) (drop-drop n 4 b)
 
-shares_long : (b m : List ℕ) (n : ℕ) → 4 + n ≤ length b → length m ≡ 4
-    → length (mid_of 4 n (m ++ drop 4 b)) ≡ n
-shares_long b m n h e =
-    length_mid 4 n (m ++ drop 4 b) (omega (arith, length-append m (drop 4 b), length-drop 4 b))
-
-pub start_is : (b m z : List ℕ) → book_long ≤ length b → m ≡ (69 ∷ 66 ∷ 75 ∷ version ∷ [])
-    → z ≡ replicate (length (mid_of 4 (2 * share_long) (m ++ drop 4 b))) 0
-    → put_mid 4 (2 * share_long) (m ++ drop 4 b) z ≡ started b
+pub start_is : (b z m : List ℕ) → book_long ≤ length b
+    → z ≡ replicate (length (mid_of 4 (2 * share_long) b)) 0 → m ≡ (69 ∷ 66 ∷ 75 ∷ version ∷ [])
+    → m ++ drop 4 (put_mid 4 (2 * share_long) b z) ≡ started b
 unfolding fresh
-start_is b m z h em ez =
-    ap₂ (λ (m z : List ℕ). put_mid 4 (2 * share_long) (m ++ drop 4 b) z) em
-    (ez ∙ ap (λ n. replicate n 0) (shares_long b m (2 * share_long) (omega arith) (ap length em)))
-    ∙ marked_then b (replicate (2 * share_long) 0) (2 * share_long)
+start_is b z m h ez em =
+    ap₂ (λ (m z : List ℕ). m ++ drop 4 (put_mid 4 (2 * share_long) b z)) em
+    (ez ∙ ap (λ n. replicate n 0) (length_mid 4 (2 * share_long) b (omega arith)))
+    ∙ ap (λ (l : List ℕ). (69 ∷ 66 ∷ 75 ∷ version ∷ []) ++ l)
+    (head_gone b (replicate (2 * share_long) 0) (2 * share_long) (omega arith))
     ∙ sym (started_fresh b h)
 
 -- ---- the part that get hands back

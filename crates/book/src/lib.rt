@@ -92,8 +92,9 @@ pub fn start(book: &mut [u8]) -> Answer
     if book.len() < BOOK {
         return Err(Refusal::Room);
     }
-    book[..HEAD].copy_from_slice(&MARK);
+    // the mark comes last: a start that is cut off sets no mark before bytes that were not cleared
     book[HEAD..BOOK].fill(0);
+    book[..HEAD].copy_from_slice(&MARK);
     Ok(())
 }
 

@@ -1,24 +1,25 @@
 -- Rows of values of either depth: how they start, a row of the element joined into one of them, and all.
-use Prim.Native.Nat.{ℕ, ◌+◌, ◌-◌, ◌*◌, ◌≤◌, ◌<◌}
+use Prim.Native.Nat.{ℕ, ◌+◌, ◌-◌, ◌*◌, ◌/◌, ◌%◌, ◌≤◌, ◌<◌}
 use mathlib.Core.Path.{◌≡◌, refl, sym, ap, ap₂, ◌∙◌, subst}
 use mathlib.Core.Bool.{Bool, not}
 use mathlib.Core.List.{List, ◌++◌, append-nil}
 use mathlib.Core.Logic.{◌⊎◌, ⊎_elim}
 use native.Mathlib.Omega.{arith}
-use native.Mathlib.Nat.{add-sub_cancel_left}
+use native.Mathlib.Nat.{add-sub_cancel_left, mod-lt, div-lt_iff_lt-mul, div-add-mod'}
 use lib.ListN.{length, get_or, take, drop, drop_of_length-le}
 use lib.Seq.{get_or-take, length-take-le}
 use borrow.Rule.Slice.PartMut.{mid_of, put_mid}
 use Rattle.basics.specs.Bytes.{Bytes}
 use Rattle.basics.specs.Lists.{firsts}
-use Rattle.basics.proofs.Lists.{get_d_firsts}
+use Rattle.basics.proofs.Lists.{get_d_firsts, list_is}
 use Rattle.basics.proofs.SliceParts.{put_before, put_within, put_after, get_mid, length_mid}
 use Rattle.picture.specs.declared.Depth.{Depth}
 use Rattle.picture.specs.declared.Depth.TheVariants.{OneBit, EightBit}
 use Rattle.picture.specs.Frame.{frame, row_bytes, top, most_pings}
 use Rattle.picture.specs.Points.{value_at, value_in, column_byte, place}
 use Rattle.picture.specs.Bytes.{Picture, bytes_of, written}
-use Rattle.picture.proofs.Bytes.{value_small}
+use Rattle.picture.proofs.Bytes.{bytes_long, value_small}
+use Rattle.picture.proofs.Bytes as pictures
 use Rattle.picture.proofs.Points.{bytes_same}
 use Rattle.picture.proofs.Sizes.{row_room}
 use Rattle.element.specs.declared.Outline.{Outline}
@@ -32,13 +33,14 @@ use Rattle.rows.specs.Steps.Ways.{swept_by}
 use Rattle.blocks.proofs.Laid.{length_laid}
 use Rattle.packedline.proofs.Margins.{neutral_bit}
 use Rattle.bitrow.specs.Steps.Added.{masked_of, row_in}
-use Rattle.rooms.specs.Steps.Lanes.{Way, row_joined}
+use Rattle.rooms.specs.Steps.Lanes.{Way, bytes_way, row_joined}
 use Rattle.strokes.specs.Steps.Strokes.{kind_at, Strokes}
 use Rattle.sourceparts.specs.Steps.Part.{PartOf}
 use Rattle.sourceparts.proofs.Shown.{pad_same, rooms_same}
 use Rattle.sourceparts.proofs.Part.{part_start, part_join}
-use Rattle.sourceparts.proofs.Whole.{part_all}
+use Rattle.sourceparts.proofs.Whole.{part_all, swept_small}
 use Rattle.bysource.specs.Steps.Filled.{value_of, RoomsOf, Scans}
+use Rattle.bysource.specs.Steps.Bytes.{bytes_value}
 
 -- the byte of a column lies in its row
 column_in : (depth : Depth) (w x : ℕ) → x < w → column_byte depth x < row_bytes depth w
@@ -67,16 +69,20 @@ module _ (depth : Depth) (grows : Bool) (s : List ℕ) (w h : ℕ) (o : Outline)
       ∙ start_value depth grows x)
 
   -- ---- a row of the element joined into row y of the result
-  module _ (way : Way) (room : ℕ) (far : ℕ → ℕ) (laws : Scans depth way room far)
-      (k v n y : ℕ) (t : List ℕ) (few : w ≤ most_pings) (hv : v < h) (hy : y < h) (hn : n < o.h)
+  module _ (way : Way) (far : ℕ) (long : w + 139 ≤ far)
+      (k v n y : ℕ) (t : List ℕ) (hv : v < h) (hy : y < h) (hn : n < o.h)
       (wide : o.w ≤ most_cells) (column : o.origin.ping.0 < o.w) (len : length t ≡ h * m)
       (source : h * m ≤ length s)
       (ey : y ≡ source_row (not grows) h v o.origin.bin.0 n) (kind : kind_at o words n ≡ k)
-      (count word : ℕ) (b at u : List ℕ) (bytes : Bytes b)
-      (rooms : RoomsOf depth grows k (row_in m s v) w (far w) b)
+      (count word : ℕ) (b at u : List ℕ)
+      (rooms : RoomsOf depth grows k (row_in m s v) w far b)
       (is_IsWord : word ≡ masked_of (get_or words n 0) o.w)
       (strokes : Strokes grows word o.origin.ping.0 k count at)
-      (made : u ≡ row_joined way grows b (take count at) (mid_of (y * m) (y * m + m - y * m) t)) where
+      (made : u ≡ row_joined way grows b (take count at) (mid_of (y * m) (y * m + m - y * m) t))
+      (joins : (x : ℕ) → column_byte depth x < length (mid_of (y * m) (y * m + m - y * m) t)
+      → value_of depth (row_joined way grows b (take count at) (mid_of (y * m) (y * m + m - y * m) t)) x
+      ≡ fold (join_by grows) (value_of depth (mid_of (y * m) (y * m + m - y * m) t) x)
+      (λ j. value_of depth b (x + get_or (take count at) j 0)) (length (take count at))) where
     abbrev old : List ℕ
     old = mid_of (y * m) (y * m + m - y * m) t
 
@@ -114,7 +120,7 @@ module _ (depth : Depth) (grows : Bool) (s : List ℕ) (w h : ℕ) (o : Outline)
         ≡ fold (join_by grows) (value_at depth t w x y) (λ j. value_of depth b (x + get_or at j 0)) count
     new_here x l =
         row_of x l ∙ ap (λ r. value_of depth r x) made
-        ∙ laws.joins grows b (take count at) old bytes x (omega (arith, old_len, column_in depth w x l))
+        ∙ joins x (omega (arith, old_len, column_in depth w x l))
         ∙ ap₂ (λ a n. fold (join_by grows) a (λ j. value_of depth b (x + get_or (take count at) j 0)) n)
         (old_at x l)
         (length-take-le count at (omega (arith, strokes.few, strokes.long)))
@@ -141,9 +147,8 @@ module _ (depth : Depth) (grows : Bool) (s : List ℕ) (w h : ℕ) (o : Outline)
         → PartOf depth grows s w h o words k v (n + 1) new
     rows_join p =
         part_join grows (top depth) (value_at depth s w) w h o words k v n y (value_at depth t w)
-        (value_at depth new w) hv hy hn wide column ey kind (far w) count word (value_of depth b) at
-        (laws.long w few)
-        (rooms_same grows k (far w) _ _ (value_of depth b)
+        (value_at depth new w) hv hy hn wide column ey kind far count word (value_of depth b) at long
+        (rooms_same grows k far _ _ (value_of depth b)
         (pad_same grows (top depth) w w (value_of depth (row_in m s v)) (λ x. value_at depth s w x v) refl
         row_value) rooms)
         is_IsWord strokes new_here new_else p
@@ -162,8 +167,9 @@ module _ (depth : Depth) (grows : Bool) (s : List ℕ) (w h : ℕ) (o : Outline)
       bytes rooms is_IsWord strokes made part =
       subst (λ i. u ≡ row_joined way grows b (take count at) (mid_of (y * i) (y * i + i - y * i) t)
       → PartOf depth grows s w h o words k v (n + 1) (put_mid (y * i) (y * i + i - y * i) t u)) (sym ei)
-      (λ made. rows_join way room far laws k v n y t few hv hy hn wide column len source ey kind count word b
-      at u bytes rooms is_IsWord strokes made part) made
+      (λ made. rows_join way (far w) (laws.long w few) k v n y t hv hy hn wide column len source ey kind count
+      word b at u rooms is_IsWord strokes made
+      (laws.joins grows b (take count at) (mid_of (y * m) (y * m + m - y * m) t) bytes) part) made
 
   -- ---- all rows of both kinds are done, and the padding is cleared
   abbrev A : Picture
@@ -180,6 +186,59 @@ module _ (depth : Depth) (grows : Bool) (s : List ℕ) (w h : ℕ) (o : Outline)
       (λ x y hx hy. value_small depth t target w x y) done))
       (drop_of_length-le t {i = h * m} (omega (arith, len)))
       ∙ append-nil (bytes_of depth A w h)
+
+-- ---- rows of bytes: of these each is its own value, and all of them are the target
+module _ (grows : Bool) (s : List ℕ) (w h : ℕ) (o : Outline) (words : List ℕ) where
+  -- a row of the element joined into row y of the result
+  pub bytes_join : (k v n y : ℕ) (t : List ℕ) → v < h → y < h → n < o.h
+      → o.w ≤ most_cells → o.origin.ping.0 < o.w → length t ≡ h * w → h * w ≤ length s
+      → y ≡ source_row (not grows) h v o.origin.bin.0 n → kind_at o words n ≡ k
+      → (blocks count word : ℕ) (b at u : List ℕ) → w + 139 ≤ 64 * blocks
+      → RoomsOf EightBit grows k (row_in w s v) (length (row_in w s v)) (64 * blocks) b
+      → word ≡ masked_of (get_or words n 0) o.w → Strokes grows word o.origin.ping.0 k count at
+      → u ≡ row_joined bytes_way grows b (take count at) (mid_of (y * w) (y * w + w - y * w) t)
+      → PartOf EightBit grows s w h o words k v n t
+      → PartOf EightBit grows s w h o words k v (n + 1) (put_mid (y * w) (y * w + w - y * w) t u)
+  bytes_join k v n y t hv hy hn wide column len source ey kind blocks count word b at u long rooms is_IsWord
+      strokes made part =
+      rows_join EightBit grows s w h o words bytes_way (64 * blocks) long k v n y t hv hy hn wide column len
+      source ey kind count word b at u
+      (subst (λ l. RoomsOf EightBit grows k (row_in w s v) l (64 * blocks) b)
+      (length_mid (v * w) w s (omega (arith, row_room w hv))) rooms)
+      is_IsWord strokes made (bytes_value grows b (take count at) _) part
+
+  -- all rows of both kinds are done
+  pub bytes_all : (t : List ℕ) → Bytes s → Bytes t → PartOf EightBit grows s w h o words 2 0 0 t → 1 ≤ w
+      → length t ≡ h * w
+      → t ≡ bytes_of EightBit
+      (swept_by grows flat 255 (frame w h) (shape_by o words) (value_at EightBit s w)) w h
+  unfolding value_at value_in
+  bytes_all t source target done some len =
+      lists_same (h * w) t (bytes_of EightBit A w h) len (bytes_long EightBit A w h)
+      (λ i l.
+      let x : i % w < w = mod-lt i {m = w} some in
+      let y : i / w < h = (div-lt_iff_lt-mul {k = w} {x = i} {y = h} some).1 l in
+      ap (λ n. get_or t n 0) (sym (div-add-mod' i w)) ∙ point (i % w) (i / w) x y
+      ∙ sym (pictures.bytes_value EightBit A w h small (i % w) (i / w) x y)
+      ∙ ap (λ n. get_or (bytes_of EightBit A w h) n 0) (div-add-mod' i w))
+    where
+      A : Picture
+      A = swept_by grows flat 255 (frame w h) (shape_by o words) (value_at EightBit s w)
+
+      small : (x y : ℕ) → x < w → y < h → A x y ≤ 255
+      small = swept_small grows 255 (value_at EightBit s w) w h o words
+          (λ p i. value_small EightBit s source w p.x p.y)
+
+      point : (x y : ℕ) → x < w → y < h → value_at EightBit t w x y ≡ A x y
+      point = part_all grows 255 (value_at EightBit s w) w h o words (value_at EightBit t w)
+          (λ p i. value_small EightBit s source w p.x p.y)
+          (λ x y hx hy. value_small EightBit t target w x y) done
+
+      -- two lists of n elements, each the same
+      lists_same : (n : ℕ) (l m : List ℕ) → length l ≡ n → length m ≡ n
+          → ((i : ℕ) → i < n → get_or l i 0 ≡ get_or m i 0) → l ≡ m
+      lists_same n l m el em each =
+          list_is (λ i. get_or m i 0) n l el each ∙ sym (list_is (λ i. get_or m i 0) n m em (λ i h. refl))
 
 -- ---- the picture in the first bytes of a target
 pub over_first : (depth : Depth) (A : Picture) (w h : ℕ) (t : List ℕ) (n : ℕ) (u : List ℕ)

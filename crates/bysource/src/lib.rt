@@ -3,7 +3,7 @@
 // The target's own rows gather them, in any order: a join that is repeated changes nothing.
 #![tactic(auto)]
 
-ghost use Rattle.std.specs.Prelude.{◌≡◌, ℕ, ◌+◌, ◌-◌, ◌*◌, ◌/◌, ◌≤◌, ◌<◌, length, replicate};
+ghost use Rattle.std.specs.Prelude.{◌≡◌, ℕ, ◌+◌, ◌-◌, ◌*◌, ◌/◌, ◌≤◌, ◌<◌, Bool, List, length, replicate};
 ghost use Rattle.picture.specs.declared.Depth.{Depth};
 ghost use Rattle.picture.specs.Frame.{most_pings, Holds, frame, row_bytes, top};
 ghost use Rattle.picture.specs.Points.{value_at};
@@ -15,7 +15,8 @@ ghost use Rattle.rows.specs.Steps.Ways.{swept_by};
 ghost use Rattle.bitrow.specs.Steps.Added.{row_in};
 ghost use Rattle.sourceparts.specs.Steps.Part.{PartOf};
 ghost use Rattle.bysource.specs.Steps.Filled.{RoomsOf, RoomsFit, Scans};
-ghost use Rattle.bysource.specs.Steps.Bytes.{byte_rooms, bytes_far, bytes_scan};
+ghost use Rattle.bysource.specs.Steps.Bytes.{byte_rooms, bytes_far, bytes_filled, bytes_scan};
+ghost use Rattle.bysource.specs.Steps.Bytes.{cells_in, runs_in};
 
 use element::{Outline, RowWord};
 use picture::{Bin, Depth};
@@ -30,6 +31,9 @@ pub trait Scan: Lane {
 
     ghost far: { ℕ → ℕ };
 
+    // what stands in the rooms of rows of kind k, made of a row of w points
+    ghost filled: { Bool → ℕ → List ℕ → ℕ → List ℕ };
+
     fn depth() -> Depth
         ensures { result ≡ depth };
 
@@ -37,7 +41,8 @@ pub trait Scan: Lane {
     fn fill_rooms(grows: bool, b: &mut [u8], s: &[u8], w: usize, k: usize)
         requires fit { RoomsFit depth grows rooms b.old (length s.now) w }
         requires kind { k < 2 }
-        ensures { RoomsOf depth grows k s.now w (far w) b.new };
+        ensures shown { RoomsOf depth grows k s.now w (far w) b.new }
+        ensures bytes { b.new ≡ filled grows k s.now w };
 
     ghost scans: { Scans depth Self.way rooms far };
 }
@@ -268,7 +273,8 @@ fn windows(w: usize) -> usize
 // Single places in the first room, windows of two in the second.
 fn fill_cells(grows: bool, b: &mut [u8], s: &[u8])
     requires fit { RoomsFit Depth.EightBit grows byte_rooms b.old (length s.now) (length s.now) }
-    ensures { RoomsOf Depth.EightBit grows 0 s.now (length s.now) (bytes_far (length s.now)) b.new }
+    ensures shown { RoomsOf Depth.EightBit grows 0 s.now (length s.now) (bytes_far (length s.now)) b.new }
+    ensures bytes { b.new ≡ cells_in grows s.now }
 {
     packedline::copy_over(false, b, SIDE, s);
     rooms::widen::<Bytes>(grows, b, 0, ROOM, windows(s.len()), 1, 1, 1);
@@ -277,7 +283,8 @@ fn fill_cells(grows: bool, b: &mut [u8], s: &[u8])
 // Windows of 4 in the first room, windows of 16 in the second.
 fn fill_runs(grows: bool, b: &mut [u8], s: &[u8])
     requires fit { RoomsFit Depth.EightBit grows byte_rooms b.old (length s.now) (length s.now) }
-    ensures { RoomsOf Depth.EightBit grows 1 s.now (length s.now) (bytes_far (length s.now)) b.new }
+    ensures shown { RoomsOf Depth.EightBit grows 1 s.now (length s.now) (bytes_far (length s.now)) b.new }
+    ensures bytes { b.new ≡ runs_in grows s.now }
 {
     let n = windows(s.len());
     packedline::copy_over(false, b, ROOM + SIDE, s);
@@ -291,6 +298,8 @@ impl Scan for Bytes {
     ghost rooms = { byte_rooms };
 
     ghost far = { bytes_far };
+
+    ghost filled = { bytes_filled };
 
     ghost scans = { bytes_scan };
 

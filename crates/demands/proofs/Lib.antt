@@ -26,3 +26,4 @@ pub mod Spectrum
 pub mod Nesting
 pub mod Finds
 pub mod Given
+pub mod Offsets

@@ -115,6 +115,19 @@ module _ (d : List ℕ) (m : cells_made d ≡ true) (b : Bytes d) (depth : Depth
   middle_same Black x y = flat_read d m b (top depth) (frame w h) A x y true
   middle_same Gradient x y = flat_read d m b (top depth) (frame w h) A x y false
 
+  module _ (which : Which) (e : Element) (q : e ≡ element_of d) (t u : List ℕ) where
+    pub made_written : u ≡ written depth (made_by which depth (frame w h) (shape_of e) A) w h t
+        → u ≡ written depth (made_by which depth (frame w h) (shape_in d) A) w h t
+    made_written eu =
+        eu ∙ ap (λ (e : Element). written depth (made_by which depth (frame w h) (shape_of e) A) w h t) q
+        ∙ written_same depth _ _ w h t (λ x y lx ly. made_same which x y)
+
+    pub middle_written : u ≡ written depth (middle_by which depth (frame w h) (shape_of e) A) w h t
+        → u ≡ written depth (middle_by which depth (frame w h) (shape_in d) A) w h t
+    middle_written eu =
+        eu ∙ ap (λ (e : Element). written depth (middle_by which depth (frame w h) (shape_of e) A) w h t) q
+        ∙ written_same depth _ _ w h t (λ x y lx ly. middle_same which x y)
+
 -- what is left where nothing is refused
 module _ {depth : Depth} {w h : ℕ} {s d : List ℕ} {room : ℕ} {answer : Told}
     (k : Known depth w h s d room answer) (e : Element) (q : e ≡ element_of d) (b : Bytes d)
@@ -124,17 +137,11 @@ module _ {depth : Depth} {w h : ℕ} {s d : List ℕ} {room : ℕ} {answer : Tol
       → u ≡ flat_left depth (made_by which depth) w h s d room t
   made_left eu =
       made_by_lem t _ _ _ k.given _ k.done
-      (eu ∙ ap (λ (e : Element). written depth
-      (made_by which depth (frame w h) (shape_of e) (value_at depth s w)) w h t) q
-      ∙ written_same depth _ _ w h t
-      (λ x y lx ly. made_same d k.cells b depth w h (value_at depth s w) which x y))
+      (made_written d k.cells b depth w h (value_at depth s w) which e q t u eu)
 
   pub middle_left : u
       ≡ written depth (middle_by which depth (frame w h) (shape_of e) (value_at depth s w)) w h t
       → u ≡ flat_left depth (middle_by which depth) w h s d room t
   middle_left eu =
       made_by_lem t _ _ _ k.given _ k.done
-      (eu ∙ ap (λ (e : Element). written depth
-      (middle_by which depth (frame w h) (shape_of e) (value_at depth s w)) w h t) q
-      ∙ written_same depth _ _ w h t
-      (λ x y lx ly. middle_same d k.cells b depth w h (value_at depth s w) which x y))
+      (middle_written d k.cells b depth w h (value_at depth s w) which e q t u eu)

@@ -107,8 +107,12 @@ fn job(rt: &impl Print, line: &[u8]) -> io::Result<()> {
 }
 
 fn each_line(rt: &impl Print, input: &[u8]) -> io::Result<()> {
-    for line in input.split_inclusive(|b| *b == b'\n') {
+    let mut rest = input;
+    // a `while`: where a line ends is what `numbers::line_end` promises
+    while !rest.is_empty() {
+        let (line, after) = rest.split_at(numbers::line_end(rest, 0));
         job(rt, line)?;
+        rest = after;
     }
     Ok(())
 }

@@ -2,6 +2,7 @@
 #![tactic(auto)]
 
 ghost use Rattle.std.specs.Prelude.{◌≡◌, ◌+◌, ◌*◌, ◌/◌, ◌%◌, ◌≤◌, length, set};
+ghost use Rattle.std.proofs.Math.Seq.{paste};
 ghost use Rattle.answer.specs.Answer.{told};
 ghost use Rattle.share.specs.Share.{held_at, holding};
 ghost use Rattle.share.specs.Maps.{with, Put, Remove, map_answer};
@@ -9,6 +10,18 @@ ghost use Rattle.share.specs.Work.{share_after};
 ghost use Rattle.share.specs.Steps.Moves.{Fits, Whole};
 
 use answer::{Answer, Refusal};
+
+// The bytes d, from the place `at` on. A loop: of std's copy_from_slice a call of memmove is made here, which
+// the library asks for nowhere else, and a board may lack.
+fn copy_in(s: &mut [u8], at: usize, d: &[u8])
+    requires { at + length d.now ≤ length s.old }
+    ensures { s.new
+        ≡ paste s.old at d.now (length d.now) }
+{
+    for i in 0..d.len() {
+        s[at + i] = d[i];
+    }
+}
 
 // The length k for number n.
 fn set_length(s: &mut [u8], n: usize, k: usize)
@@ -30,7 +43,7 @@ fn replace(s: &mut [u8], numbers: usize, n: usize, d: &[u8])
     let all = 2 * numbers + share::total(&s[..], numbers);
     let end = at + d.len();
     s.copy_within(next..all, end);
-    s[at..end].copy_from_slice(d);
+    copy_in(s, at, d);
     set_length(s, n, d.len());
 }
 

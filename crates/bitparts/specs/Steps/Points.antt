@@ -23,7 +23,8 @@ windows_of w = made_of ((w + 650) / 512)
 abbrev pub bits_far : ℕ → ℕ
 bits_far w = 8 * windows_of w
 
-bits_value : (grows : Bool) (b at t : List ℕ) → Bytes b → (x : ℕ) → x / 8 < length t
+-- what is joined of packed bytes is joined of their points
+pub bits_value : (grows : Bool) (b at t : List ℕ) → Bytes b → (x : ℕ) → x / 8 < length t
     → value_of OneBit (lanes.row_joined bits_way grows b at t) x
     ≡ fold (join_by grows) (value_of OneBit t x) (λ j. value_of OneBit b (x + get_or at j 0)) (length at)
 unfolding lanes.row_joined lanes.byte_joined places.joined_row places.byte_joined value_in point_of

@@ -2,6 +2,8 @@
 -- its windows of two into the second, which is not read.
 use Rattle.rooms.specs.Steps.Lanes.{widened_to}
 use Rattle.bitrooms.specs.Steps.Points.{bits_way}
+use Rattle.bitparts.specs.Steps.Filled.{cells_in}
+use Rattle.bitparts.specs.Steps.Points.{windows_of}
 use Rattle.bitparts.proofs.Filled.{cells_filled}
 use lib.ListN.{length}
 use mathlib.Core.Path.{◌≡◌, ap, ◌∙◌}
@@ -23,12 +25,17 @@ widen-requires c =
     }
 
 pub returns : goal.returns
+unfolding cells_in
 returns c =
     let a = c.args in
     let p = c.pad in
-    cells_filled a.grows a.s.now a.w
-    (λ i. let g = c.type_inv.s i in omega arith)
-    c.requires.fit.some_points c.requires.fit.few_points c.requires.fit.row p.new.b _
-    (λ i. let g = c.slice_known-2-1.given i in omega arith)
-    p.ensures
-    (c.widen.ensures ∙ ap (λ n. widened_to bits_way a.grows 0 154 n 1 1 1 p.new.b) c.windows.ensures)
+    let ev = c.widen.ensures
+    ∙ ap (λ n. widened_to bits_way a.grows 0 154 n 1 1 1 p.new.b) c.windows.ensures in
+    record {
+      shown = cells_filled a.grows a.s.now a.w
+          (λ i. let g = c.type_inv.s i in omega arith)
+          c.requires.fit.some_points c.requires.fit.few_points c.requires.fit.row p.new.b _
+          (λ i. let g = c.slice_known-2-1.given i in omega arith)
+          p.ensures ev;
+      bytes = ev ∙ ap (widened_to bits_way a.grows 0 154 (windows_of a.w) 1 1 1) p.ensures;
+    }

@@ -1,4 +1,4 @@
--- The mark is set, then all bytes of the shares are cleared: the fresh book.
+-- All bytes of the shares are cleared, then the mark is set: the fresh book.
 -- A buffer that is too short is left as it was.
 use native.Mathlib.Omega.{arith}
 use Rattle.answer.specs.Answer.{told}
@@ -18,5 +18,5 @@ unfolding told
 returns c =
     let b = c.args.book.now in record {
       answer = start_answer_lem b (omega arith);
-      bytes = start_is b _ _ (omega arith) c.copy_from_slice.ensures.after (c.fill.ensures.after (λ y q. q));
+      bytes = start_is b _ _ (omega arith) (c.fill.ensures.after (λ y q. q)) c.copy_from_slice.ensures.after;
     }

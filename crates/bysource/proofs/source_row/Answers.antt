@@ -70,6 +70,6 @@ spread-requires g c =
           (g.D.Scan.far a.w)
           f.new.b) n.ensures
           (subst (λ m. RoomsOf g.D.Scan.depth a.grows a.k (take m (drop (a.v.0 * n.result) a.s.now)) a.w
-          (g.D.Scan.far a.w) f.new.b) (add-sub_cancel_left (a.v.0 * n.result) n.result) f.ensures);
+          (g.D.Scan.far a.w) f.new.b) (add-sub_cancel_left (a.v.0 * n.result) n.result) f.ensures.shown);
       part_of = c.requires.part_of;
     }

@@ -1,11 +1,9 @@
 -- The higher descriptors slide to the end of the new one, which is copied in; then its length is set.
 -- That this is the share with the map's entry changed is one law, `replaced`.
 use Prim.Native.Nat.{ℕ, ◌+◌, ◌-◌, ◌*◌, ◌<◌, ◌≤◌}
-use mathlib.Core.Path.{refl}
 use native.Mathlib.Omega.{arith}
 use borrow.Author.Rules.{rules}
 use lib.ListN.{length, get_or}
-use Rattle.std.proofs.lemmas.Slice.{put_mid-paste}
 use Rattle.share.proofs.Replaced.{next_le, moves_fit, replaced}
 use Rattle.sharework.proofs.replace.Goals as goal
 use Rattle.sharework.proofs.replace.Goals.{After-total-2}
@@ -38,9 +36,9 @@ pub copy_within-requires-clause-dest_in_bounds : goal.copy_within-requires-claus
 copy_within-requires-clause-dest_in_bounds c =
     moved (goal.at.copy_within-requires-clause-dest_in_bounds c).After-total-2
 
-pub slice_bounds-copy_from_slice-end : goal.slice_bounds-copy_from_slice-end
-slice_bounds-copy_from_slice-end c =
-    let h = moved (goal.at.slice_bounds-copy_from_slice-end c).After-total-2 in
+pub copy_in-requires : goal.copy_in-requires
+copy_in-requires c =
+    let h = moved (goal.at.copy_in-requires c).After-total-2 in
     let k = c.copy_within.auto.self in
     search rules
 
@@ -49,6 +47,4 @@ returns c =
     let a = c.args in
     replaced a.numbers a.n a.s.now a.d.now c.requires (byte (goal.at.returns c).After-total-2) _ _ _
     c.total.ensures.0 c.length_at.ensures.0 c.total-2.ensures.0 _ _ _
-    c.copy_within.ensures.after
-    (put_mid-paste _ _ _ _ a.d.now _ c.copy_from_slice.ensures.after (omega arith) refl)
-    c.set_length.ensures
+    c.copy_within.ensures.after c.copy_in.ensures c.set_length.ensures
